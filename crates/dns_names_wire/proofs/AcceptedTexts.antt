@@ -10,8 +10,8 @@ use Rattle.dnw_base.specs.Names.{NameValue, AreLabels, encoded_size}
 use Rattle.dnw_base.proofs.Wires.{AllByRecursion_push}
 use Rattle.dnw_name_form.specs.LabelText.{dot, is_label_text}
 use Rattle.dnw_name_form.specs.Edits.{with_label}
-use Rattle.dnw_name_ascii.specs.NameText.{TextElement, Char, Dot, Stop, Outside, elements, with_text, name_from_elements, name_from_text, name_text, IsLabelText}
-use Rattle.dnw_name_ascii.proofs.ReadBack.{read_back}
+use Rattle.dnw_name_text.specs.AsciiText.{TextElement, Char, Dot, Stop, Outside, elements, with_text, name_from_elements, name_from_text, name_text, IsLabelText}
+use Rattle.dnw_name_text.proofs.ReadBack.{read_back}
 
 -- labels that fit into a name and stand for themselves as text
 record AreTexts (ls : List (List ℕ)) : Type 0 where

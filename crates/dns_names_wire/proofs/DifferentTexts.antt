@@ -8,8 +8,8 @@ use Rattle.dnw_base.specs.Labels.{IsLabel}
 use Rattle.dnw_base.specs.Names.{NameValue, AreLabels}
 use Rattle.dnw_name_form.specs.LabelText.{dot, backslash, is_plain, byte_text, octal_escape, label_text}
 use Rattle.dnw_name_read.specs.ReadingLaws.{AreBytes}
-use Rattle.dnw_name_ascii.specs.NameText.{State, Outside, Escaped, AfterOne, AfterTwo, is_octal_digit, name_text}
-use Rattle.dnw_name_ascii.proofs.Joined.{dotted, joined_cons}
+use Rattle.dnw_name_text.specs.AsciiText.{State, Outside, Escaped, AfterOne, AfterTwo, is_octal_digit, name_text}
+use Rattle.dnw_name_text.proofs.Joined.{dotted, joined_cons}
 use Rattle.dns_names_wire.specs.TextLaws.{AreByteLabels}
 
 abbrev name_of : Bool → List (List ℕ) → NameValue

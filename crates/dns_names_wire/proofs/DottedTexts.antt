@@ -4,7 +4,7 @@ use Rattle.std.proofs.lemmas.List.{append-nil}
 use Rattle.dnw_base.specs.Names.{wire}
 use Rattle.dnw_base.proofs.Wires.{length_wire}
 use Rattle.dnw_name_read.proofs.Back.{Reads_wire}
-use Rattle.dnw_name_ascii.specs.NameText.{name_text}
+use Rattle.dnw_name_text.specs.AsciiText.{name_text}
 use Rattle.dns_names_wire.specs.TextLaws.{BytesAndTextsAgree, dotted_text}
 
 text_of : (is_fqdn : Bool) (ls : List (List ℕ)) → name_text (record { is_fqdn = true; labels = ls }) ≡ dotted_text (record { is_fqdn = is_fqdn; labels = ls })

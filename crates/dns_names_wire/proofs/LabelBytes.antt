@@ -5,8 +5,8 @@ use Rattle.std.proofs.lemmas.Bool.{and_parts}
 use Rattle.dnw_name_form.specs.LabelText.{may_begin, may_follow}
 use Rattle.dnw_name_read.specs.Reading.{NameAt}
 use Rattle.dnw_name_read.specs.ReadingLaws.{AreBytes}
-use Rattle.dnw_name_ascii.specs.NameText.{IsLabelText}
-use Rattle.dnw_name_ascii.proofs.ByteTexts.{IsRead_begin, IsRead_follow}
+use Rattle.dnw_name_text.specs.AsciiText.{IsLabelText}
+use Rattle.dnw_name_text.proofs.ByteTexts.{IsRead_begin, IsRead_follow}
 use Rattle.dnw_zone_data.proofs.FieldValues.{labels_fit}
 use Rattle.dns_names_wire.specs.TextLaws.{AreByteLabels}
 

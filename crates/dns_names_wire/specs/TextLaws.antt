@@ -7,7 +7,7 @@ use Rattle.dnw_base.specs.Names.{NameValue, AreLabels, wire}
 use Rattle.dnw_name_form.specs.LabelText.{dot}
 use Rattle.dnw_name_read.specs.Reading.{NameAt}
 use Rattle.dnw_name_read.specs.ReadingLaws.{AreBytes}
-use Rattle.dnw_name_ascii.specs.NameText.{name_from_text, name_text, IsLabelText}
+use Rattle.dnw_name_text.specs.AsciiText.{name_from_text, name_text, IsLabelText}
 
 -- each octet of each label is below 256
 abbrev pub AreByteLabels : List (List ℕ) → Type 0

@@ -26,7 +26,7 @@ pub use Rattle.dnw_name_order.specs.SortKeys.{escape_octet, label_key, max_sort_
 pub use Rattle.dnw_name_order.specs.SortKeyLaws.{KeysCompare, KeysCompareNames, KeysAreEqual, ZonesBegin, KeysAreShort}
 pub use Rattle.dnw_name.specs.FromLabels.{JoinsItems, JoinsAll, RunsOutAt}
 -- Names in lower case.
-pub use Rattle.dnw_name_lower.specs.LowerNames.{lowered, IsLower, lower_name_from_text, lower_name_hash_input, TakesLowerName}
+pub use Rattle.dnw_name_zones.specs.LowerNames.{lowered, IsLower, lower_name_from_text, lower_name_hash_input, TakesLowerName}
 -- Types and classes of records.
 pub use Rattle.dnw_base.specs.declared.record_type.RecordType.{RecordType}
 pub use Rattle.dnw_base.specs.RecordTypes.{type_code, type_name, type_text, type_of_code, type_of_name, type_of_text, type_cmp, type_hash, is_dnssec, is_unknown}
@@ -37,8 +37,8 @@ pub use Rattle.dns_names_wire.specs.CodeLaws.{ClassCodesComeBack, NamedClassesCo
 pub use Rattle.dnw_base.specs.Naming.{Looks, ReportsType, ReportsClass}
 -- Texts of labels and names, as hickory-proto has them.
 pub use Rattle.dnw_name_form.specs.LabelText.{dot, label_from_bytes, label_from_text, label_text}
-pub use Rattle.dnw_name_ascii.specs.NameText.{IsLabelText, max_text, name_from_text, name_from_text_at, name_text}
-pub use Rattle.dnw_name_ascii.specs.TextFaults.{Gives, GoesWrong, GoesWrongBy, IsNameText, rule_of}
+pub use Rattle.dnw_name_text.specs.AsciiText.{IsLabelText, max_text, name_from_text, name_from_text_at, name_text}
+pub use Rattle.dnw_name_text.specs.AsciiFaults.{Gives, GoesWrong, GoesWrongBy, IsNameText, rule_of}
 -- Texts of names in master files.
 pub use Rattle.dnw_name_text.specs.declared.error.NameTextError.{NameTextError}
 pub use Rattle.dnw_name_text.specs.NameTexts.{full_name_text, relative_name_text, text_of_name}
@@ -56,7 +56,7 @@ pub use Rattle.dnw_name_zones.specs.Usages.{Zone}
 pub use Rattle.dnw_name_zones.specs.Zones.{reverse_zone, test_zone, localhost_zone, local_zone, invalid_zone, example_zone, usual_zone, onion_zone}
 pub use Rattle.dnw_name_zones.specs.Zones.{default_value, localhost_value, in_addr_arpa_127_value, ip6_arpa_1_value, local_value, in_addr_arpa_169_254_value}
 pub use Rattle.dnw_name_zones.specs.Zones.{ip6_arpa_fe_8_value, ip6_arpa_fe_9_value, ip6_arpa_fe_b_value, invalid_value, onion_value}
-pub use Rattle.dnw_name_lower.specs.AddressTexts.{ReadsIp}
+pub use Rattle.dnw_name_zones.specs.AddressTexts.{ReadsIp}
 -- Reading a message.
 pub use Rattle.dnw_base.specs.Decoder.{Decoder, Takes, TakesCopy, advanced, next_bytes}
 pub use Rattle.dnw_name_read.specs.Reading.{Reads, Stops, NameAt, FaultAt, TakesName, StopsAt, target}
@@ -149,11 +149,11 @@ pub use Rattle.dnw_zone_record.specs.RecordLines.{FailsRecordLine, IsRecordLine,
 pub use Rattle.dnw_zone_data.specs.declared.error.DataTextError.{DataTextError}
 pub use Rattle.dnw_zone_data.specs.declared.error.DataTextError.TheVariants.{Memory as OutOfMemory}
 -- Service parameters as text.
-pub use Rattle.dnw_zone_svcb.specs.Params.{ParamValue, in_key_order, params_wire}
-pub use Rattle.dnw_zone_svcb.specs.ParamTexts.{param_text, params_text}
-pub use Rattle.dnw_zone_svcb.specs.Mandatory.{keeps_mandatory}
-pub use Rattle.dnw_zone_svcb.specs.ParamWords.{IsParam}
-pub use Rattle.dnw_zone_svcb.specs.ParamLaws.{IsParamValue, ParamsComeBack}
+pub use Rattle.dnw_zone_values.specs.Params.{ParamValue, in_key_order, params_wire}
+pub use Rattle.dnw_zone_values.specs.ParamTexts.{param_text, params_text}
+pub use Rattle.dnw_zone_values.specs.Mandatory.{keeps_mandatory}
+pub use Rattle.dnw_zone_values.specs.ParamWords.{IsParam}
+pub use Rattle.dnw_zone_values.specs.ParamLaws.{IsParamValue, ParamsComeBack}
 pub use Rattle.dnw_zone_data.specs.DataTextLaws.{FieldAddressesComeBack, CountedComeBack, FieldIdentifiersComeBack, FieldNamesComeBack, NumbersComeBack, OctetsComeBack, SegmentsComeBack, StringsComeBack, TypesComeBack}
 pub use Rattle.dnw_zone_data.specs.DataTextLaws.{DataAreUnambiguous, DataComeBack, GenericComesBack, GenericIsParsed, ListsComeBack, PrintedDataAreSame, TextsAreParsed, IsFieldReadBack, FieldComesBack, FollowsField, IsReadType, IsDataOctets}
 pub use Rattle.dnw_zone_record.specs.RecordTextLaws.{LinesAreUnambiguous, LinesComeBack, PrintedLinesAreSame, line_head}
@@ -170,11 +170,11 @@ pub use Rattle.dnw_zone_file.specs.WriterLaws.{HasDataOctets, IsWrittenRecord, L
 pub use Rattle.dnw_zone_file.specs.ShortLines.{AppendsOrigin, AppendsShort, AppendsTtl, IsBefore, IsShortName, IsShortOwner, IsShortText, origin_line, short_head, short_line, short_rest, short_ttl, ttl_line}
 pub use Rattle.dnw_zone_file.specs.WriterLaws.{IsWrittenZone, NothingIsWritten, OriginsAreAdded, OriginsAreEntries, ZoneRecordsAreAdded, ShortLinesAreEntries, ShortLinesAreReadBack, TtlsAreAdded, TtlsAreEntries, WrittenTextsAreRecords}
 -- Whole messages: headers, sections and EDNS.
-pub use Rattle.dnw_message_header.specs.HeaderLaws.{HeaderFits, HeadersReadBack, HeadersWriteBack}
-pub use Rattle.dnw_message_header.specs.Headers.{TakesHeader, flag, flags_of, header_of, header_size, header_wire, is_set, metadata_of}
-pub use Rattle.dnw_message_header.specs.OpCodes.{op_code, op_entry, op_of_code}
-pub use Rattle.dnw_message_header.specs.ResponseCodes.{response_code, response_entry, response_of_code}
-pub use Rattle.dnw_message_header.specs.Responses.{response_to}
+pub use Rattle.dnw_message_read.specs.HeaderLaws.{HeaderFits, HeadersReadBack, HeadersWriteBack}
+pub use Rattle.dnw_message_read.specs.Headers.{TakesHeader, flag, flags_of, header_of, header_size, header_wire, is_set, metadata_of}
+pub use Rattle.dnw_message_read.specs.OpCodes.{op_code, op_entry, op_of_code}
+pub use Rattle.dnw_message_read.specs.ResponseCodes.{response_code, response_entry, response_of_code}
+pub use Rattle.dnw_message_read.specs.Responses.{response_to}
 pub use Rattle.dnw_message_read.specs.Edns.{EdnsValue, FailsEdns, FailsOnlyOpt, FailsOpt, HasEdns, HasOpt, HasOptions, IsEdns, IsResponseCode, OptionValue}
 pub use Rattle.dnw_message_read.specs.Edns.{OptsAre, first_option, is_opt, opts_in, opts_outside}
 pub use Rattle.dnw_message_read.specs.MessageLaws.{MessagesDontFail, OneMessage, OneMessageError}
@@ -189,8 +189,8 @@ pub use Rattle.dnw_message_read.specs.Texts.{address_text, count_text, error_nam
 pub use Rattle.dnw_message_read.specs.Rules.{IsOptionFields, bits_after, code_of, has_no_name, may_be_server, may_be_version, most_bits, network_fault, octets_for, option_octets, value_fault}
 pub use Rattle.dnw_message_read.specs.Values.{OptionFields, VersionValue, seen_option, seen_version}
 -- Whole messages that are written.
-pub use Rattle.dnw_message_header.specs.declared.header.HeaderCounts.{HeaderCounts}
-pub use Rattle.dnw_message_header.specs.declared.header.Metadata.{Metadata}
+pub use Rattle.dnw_message_read.specs.declared.header.HeaderCounts.{HeaderCounts}
+pub use Rattle.dnw_message_read.specs.declared.header.Metadata.{Metadata}
 -- the data of records of any type, and records that are written from them
 pub use Rattle.dnw_record.specs.declared.record.Record.{Record}
 pub use Rattle.dnw_record.specs.declared.rdata.RDataError.{RDataError}

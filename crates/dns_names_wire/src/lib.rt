@@ -16,8 +16,8 @@ pub use dnw_name::name::Name;
 pub use dnw_name::name_ref::NameRef;
 pub use dnw_name_arpa::net::{IpNet, Ipv4Net, Ipv6Net};
 pub use dnw_name_form::label::{IntoLabel, Label};
-pub use dnw_name_lower::into_name::IntoName;
-pub use dnw_name_lower::lower_name::LowerName;
+pub use dnw_name_zones::into_name::IntoName;
+pub use dnw_name_zones::lower_name::LowerName;
 pub use dnw_name_zones::rr_key::RrKey;
 pub use dnw_name_zones::usage::ZoneUsage;
 pub use dnw_record::record_ref::RecordRef;
@@ -142,7 +142,7 @@ pub mod fields {
 
 /// Types that give a name: names, texts and addresses.
 pub mod into_name {
-    pub use dnw_name_lower::into_name::IntoName;
+    pub use dnw_name_zones::into_name::IntoName;
 }
 
 /// Labels, of which names are made.
@@ -152,20 +152,20 @@ pub mod label {
 
 /// Domain names in lower case, as zones and caches are keyed.
 pub mod lower_name {
-    pub use dnw_name_lower::lower_name::LowerName;
+    pub use dnw_name_zones::lower_name::LowerName;
 }
 
 /// Whole messages, which are checked once and read without a copy: headers, sections and EDNS.
 pub mod message {
-    pub use dnw_message_header::header::{Header, HeaderCounts, MessageType, Metadata};
-    pub use dnw_message_header::op_code::OpCode;
-    pub use dnw_message_header::response_code::ResponseCode;
     pub use dnw_message_read::edns::{EdnsError, EdnsOption, EdnsOptions, EdnsRef};
     pub use dnw_message_read::error::{MessageError, MessageErrorKind, Section};
+    pub use dnw_message_read::header::{Header, HeaderCounts, MessageType, Metadata};
     pub use dnw_message_read::items::{Queries, Records};
     pub use dnw_message_read::laws;
     pub use dnw_message_read::message::{MessageRef, SectionOffsets};
+    pub use dnw_message_read::op_code::OpCode;
     pub use dnw_message_read::query::QueryRef;
+    pub use dnw_message_read::response_code::ResponseCode;
 }
 
 /// Messages written item by item into a buffer of the caller: without an allocation, and with names that are compressed by hints,
@@ -268,7 +268,7 @@ pub mod sort_key {
 
 /// Where a text that gives no name by `Name::from_ascii` goes wrong. `Name::from_text` returns its own error, of [`name_text`].
 pub mod text_fault {
-    pub use dnw_name_ascii::fault::{TextFault, TextRule, fault_of};
+    pub use dnw_name_text::ascii_fault::{TextFault, TextRule, fault_of};
 }
 
 /// What follows from the definitions of texts, for callers' proofs.

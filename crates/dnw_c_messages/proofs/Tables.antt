@@ -4,8 +4,8 @@ use Rattle.std.specs.Prelude.{IfErr, IfOk, IsErrAnd}
 use Rattle.std.proofs.lemmas.List.{length-take-le}
 use lib.ListN.{take-append-drop}
 use Rattle.dnw_base.specs.Decoder.{Decoder}
-use Rattle.dnw_message_header.specs.Headers.{header_of, header_size}
-use Rattle.dnw_message_header.specs.declared.header.HeaderCounts.{HeaderCounts}
+use Rattle.dnw_message_read.specs.Headers.{header_of, header_size}
+use Rattle.dnw_message_read.specs.declared.header.HeaderCounts.{HeaderCounts}
 use Rattle.dnw_c_base.specs.declared.failure.Failure.{Failure}
 use Rattle.dnw_c_messages.specs.Listings.{Listing}
 use Rattle.dnw_c_messages.specs.TableCalls.{FailsTable, IsTableOf, PutsListing}

@@ -7,11 +7,11 @@ use Rattle.dnw_c_base.specs.declared.failure.Failure.{Failure}
 use Rattle.dnw_c_base.specs.declared.failure.Failure.TheVariants as why
 use Rattle.dnw_message_read.specs.Edns.{EdnsValue, FailsEdns, HasEdns, IsResponseCode}
 use Rattle.dnw_message_read.specs.Messages.{FailsMessage, MessageAt, MessageValue}
-use Rattle.dnw_message_header.specs.ResponseCodes.{response_code}
+use Rattle.dnw_message_read.specs.ResponseCodes.{response_code}
 use Rattle.dnw_message_read.specs.declared.edns.EdnsError.{EdnsError}
 use Rattle.dnw_message_read.specs.declared.edns.EdnsError.TheVariants.{CutOption, Decode, OwnerNotRoot}
 use Rattle.dnw_message_read.specs.declared.error.MessageError.{MessageError}
-use Rattle.dnw_message_header.specs.declared.response_code.ResponseCode.{ResponseCode}
+use Rattle.dnw_message_read.specs.declared.response_code.ResponseCode.{ResponseCode}
 use Rattle.dnw_c_messages.specs.MessageCalls.{of_message}
 use Rattle.dnw_c_messages.specs.declared.edns.ReadEdns.{ReadEdns}
 

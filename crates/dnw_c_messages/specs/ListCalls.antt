@@ -13,7 +13,7 @@ use Rattle.dnw_base.specs.RecordTypes.{type_code}
 use Rattle.dnw_name_read.specs.Reading.{TakesName}
 use Rattle.dnw_name.specs.Decodable.{StopsSomehow}
 use Rattle.dnw_record.specs.Records.{FailsRecord, RecordValue, TakesRecord, data_octets}
-use Rattle.dnw_message_header.specs.Headers.{header_size}
+use Rattle.dnw_message_read.specs.Headers.{header_size}
 use Rattle.dnw_message_writer.specs.Hints.{slot_of}
 use Rattle.dnw_message_writer.specs.Items.{QuestionGoesPast}
 use Rattle.dnw_message_writer.specs.Sections.{rank}

@@ -14,8 +14,8 @@ use Rattle.dnw_data.specs.Values.{FieldValue, names, params, prefixes, texts, ty
 use Rattle.dnw_data.specs.Walks.{IsAtEnd}
 use Rattle.dnw_record.specs.DataCopies.{data_start, record_kinds}
 use Rattle.dnw_record.specs.Records.{fixed_at, fixed_size, length_field, number_at, ttl_field}
-use Rattle.dnw_message_header.specs.Headers.{header_of, header_size}
-use Rattle.dnw_message_header.specs.declared.header.Header.{Header}
+use Rattle.dnw_message_read.specs.Headers.{header_of, header_size}
+use Rattle.dnw_message_read.specs.declared.header.Header.{Header}
 use Rattle.dnw_message_read.specs.Messages.{FailsHere, Item, ItemAt, Part, question_rest, record_in, record_rest, rest_of, sections_of}
 use Rattle.dnw_message_read.specs.declared.error.MessageErrorKind.{MessageErrorKind}
 use Rattle.dnw_message_read.specs.declared.error.Section.{Section}

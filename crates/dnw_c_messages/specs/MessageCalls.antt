@@ -4,10 +4,10 @@ use Rattle.dnw_c_base.specs.Failures.{of_decode}
 use Rattle.dnw_c_base.specs.Results.{GivesOr}
 use Rattle.dnw_c_base.specs.declared.failure.Failure.{Failure}
 use Rattle.dnw_c_base.specs.declared.failure.Failure.TheVariants as why
-use Rattle.dnw_message_header.specs.Headers.{is_response}
+use Rattle.dnw_message_read.specs.Headers.{is_response}
 use Rattle.dnw_message_read.specs.Messages.{FailsMessage, MessageAt, MessageValue, SectionsBegin}
-use Rattle.dnw_message_header.specs.OpCodes.{op_code}
-use Rattle.dnw_message_header.specs.ResponseCodes.{response_code}
+use Rattle.dnw_message_read.specs.OpCodes.{op_code}
+use Rattle.dnw_message_read.specs.ResponseCodes.{response_code}
 use Rattle.dnw_message_read.specs.declared.error.MessageError.{MessageError}
 use Rattle.dnw_message_read.specs.declared.error.MessageErrorKind.{MessageErrorKind}
 use Rattle.dnw_message_read.specs.declared.error.MessageErrorKind.TheVariants.{Decode, TooManyPointers}

@@ -4,7 +4,7 @@ use Rattle.dnw_c_base.specs.Failures.{of_decode}
 use Rattle.dnw_c_base.specs.declared.failure.Failure.{Failure}
 use Rattle.dnw_c_base.specs.declared.failure.Failure.TheVariants as why
 use Rattle.dnw_base.specs.Limits.{max_pointers}
-use Rattle.dnw_message_header.specs.Headers.{header_size}
+use Rattle.dnw_message_read.specs.Headers.{header_size}
 use Rattle.dnw_message_read.specs.Messages.{FailsMessage, MessageAt, MessageValue}
 use Rattle.dnw_message_read.specs.declared.error.MessageError.{MessageError}
 use Rattle.dnw_message_writer.specs.Copying.{CopiesMessage, FailsToCopyMessage}

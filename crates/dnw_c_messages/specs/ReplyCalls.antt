@@ -4,9 +4,9 @@ use Rattle.dnw_base.specs.DnsClasses.{class_code}
 use Rattle.dnw_base.specs.Limits.{max_pointers}
 use Rattle.dnw_base.specs.Names.{lower}
 use Rattle.dnw_base.specs.RecordTypes.{type_code}
-use Rattle.dnw_message_header.specs.Headers.{is_response}
-use Rattle.dnw_message_header.specs.OpCodes.{op_code}
-use Rattle.dnw_message_header.specs.declared.header.Metadata.{Metadata}
+use Rattle.dnw_message_read.specs.Headers.{is_response}
+use Rattle.dnw_message_read.specs.OpCodes.{op_code}
+use Rattle.dnw_message_read.specs.declared.header.Metadata.{Metadata}
 use Rattle.dnw_message_read.specs.Messages.{FailsMessage, MessageAt, MessageValue, QueryValue}
 use Rattle.dnw_message_read.specs.declared.error.MessageError.{MessageError}
 use Rattle.dnw_c_base.specs.Results.{GivesOr}

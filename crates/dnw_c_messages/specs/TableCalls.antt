@@ -1,6 +1,6 @@
 -- What the functions for C put of all items of a message and of the fields of their data.
 use Rattle.std.specs.Prelude.{◌≡◌, ◌<◌, ◌≤◌, ◌⊎◌, ℕ, List, [], ◌++◌, drop, length, Result}
-use Rattle.dnw_message_header.specs.Headers.{header_size}
+use Rattle.dnw_message_read.specs.Headers.{header_size}
 use Rattle.dnw_name_read.specs.Buffers.{put}
 use Rattle.dnw_c_base.specs.Results.{GivesOr}
 use Rattle.dnw_c_base.specs.declared.failure.Failure.{Failure}

@@ -6,7 +6,7 @@ use Rattle.dnw_c_base.specs.WireForms.{IsFormOf, IsNoForm}
 use Rattle.dnw_c_base.specs.declared.failure.Failure.{Failure}
 use Rattle.dnw_c_base.specs.declared.failure.Failure.TheVariants as why
 use Rattle.dnw_data.specs.Table.{fields_of}
-use Rattle.dnw_message_header.specs.Headers.{header_size}
+use Rattle.dnw_message_read.specs.Headers.{header_size}
 use Rattle.dnw_message_writer.specs.Data.{AreOfData}
 use Rattle.dnw_message_writer.specs.Hints.{slot_of}
 use Rattle.dnw_message_writer.specs.Items.{IsQuestion, IsRecord, QuestionGoesPast, RecordGoesPast, fields_of_record}

@@ -8,8 +8,8 @@ ghost use Rattle.dnw_c_messages.specs.MessageCalls.{ReadsMessage, fault_of, of_m
 use dnw_base::error::DecodeError;
 use dnw_c_base::failure::{Failure, of_decode};
 use dnw_c_base::results::report;
-use dnw_message_header::header::MessageType;
 use dnw_message_read::error::{MessageError, MessageErrorKind, Section};
+use dnw_message_read::header::MessageType;
 use dnw_message_read::message::MessageRef;
 
 /// A message that was read: the fields of its header, the offsets at which its sections of records begin, and the offset

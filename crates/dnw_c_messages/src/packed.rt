@@ -1,9 +1,9 @@
 //! Messages that are written whole, and if they are truncated.
 ghost use Rattle.std.specs.Prelude.{◌≡◌, ◌≤◌, length};
-ghost use Rattle.dnw_message_header.specs.Headers.{header_size};
+ghost use Rattle.dnw_message_read.specs.Headers.{header_size};
 ghost use Rattle.dnw_c_messages.specs.Packed.{is_cut};
 
-use dnw_message_header::header::Header;
+use dnw_message_read::header::Header;
 
 /// A message that was written: the number of octets that were put, and the bit TC of its header.
 #[repr(C)]

@@ -7,7 +7,7 @@ ghost use Rattle.dnw_c_messages.specs.ReplyCalls.{HasSameQuestion, IsNoMessage, 
 use crate::message::of_message;
 use dnw_c_base::failure::Failure;
 use dnw_c_base::results::report;
-use dnw_message_header::header::{MessageType, Metadata};
+use dnw_message_read::header::{MessageType, Metadata};
 use dnw_message_read::items::Queries;
 use dnw_message_read::message::MessageRef;
 use dnw_message_read::query::QueryRef;

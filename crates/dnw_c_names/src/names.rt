@@ -2,7 +2,7 @@
 ghost use Rattle.std.specs.Prelude.{◌≡◌, ℕ, ◌<◌, ◌≤◌, List, length, Ok, IfOk, IfErr, OnOk};
 ghost use Rattle.dnw_base.specs.Limits.{max_name, max_pointers};
 ghost use Rattle.dnw_base.specs.Names.{wire};
-ghost use Rattle.dnw_name_ascii.specs.NameText.{max_text};
+ghost use Rattle.dnw_name_text.specs.AsciiText.{max_text};
 ghost use Rattle.dnw_name_text.specs.NameTexts.{text_of_name};
 ghost use Rattle.dnw_write.specs.Encoder.{Encoder};
 ghost use Rattle.dnw_write.specs.EncoderValue.{value, lender};

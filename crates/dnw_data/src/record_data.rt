@@ -3,14 +3,14 @@ ghost use Rattle.std.specs.Prelude.{◌≡◌, ℕ, ℤ, IfOk, IfErr, OnErr, IsE
 ghost use Rattle.dnw_base.specs.Decoder.{Decoder};
 ghost use Rattle.dnw_base.specs.declared.error.DecodeError.{DecodeError};
 ghost use Rattle.dnw_name.specs.Decodable.{TakesU16, TakesU32, TakesI32, LacksBytes, TakesNameValue, StopsSomehow};
-ghost use Rattle.dnw_name_lower.specs.LowerNames.{TakesLowerName};
+ghost use Rattle.dnw_name_zones.specs.LowerNames.{TakesLowerName};
 
 use dnw_base::decoder::BinDecoder;
 use dnw_base::error::DecodeError;
 use dnw_base::restrict::Restrict;
 use dnw_name::binary::BinDecodable;
 use dnw_name::name::Name;
-use dnw_name_lower::lower_name::LowerName;
+use dnw_name_zones::lower_name::LowerName;
 use std::alloc::Global;
 
 /// Types that can be read from the data of a record, of which the record gives the length in octets.

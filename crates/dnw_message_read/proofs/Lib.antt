@@ -1,3 +1,5 @@
+pub mod Headers
+pub mod Starts
 pub mod InTurn
 pub mod Whole
 pub mod Lending

@@ -7,8 +7,8 @@ use Rattle.dnw_message_read.specs.declared.error.MessageError.{MessageError}
 use Rattle.dnw_message_read.specs.declared.error.MessageErrorKind.{MessageErrorKind}
 use Rattle.dnw_message_read.specs.declared.error.MessageErrorKind.TheVariants.{Decode, TooManyPointers}
 use Rattle.dnw_message_read.specs.declared.error.Section.{Section}
-use Rattle.dnw_message_header.specs.declared.header.Header.{Header}
-use Rattle.dnw_message_header.specs.Headers.{header_of, header_size}
+use Rattle.dnw_message_read.specs.declared.header.Header.{Header}
+use Rattle.dnw_message_read.specs.Headers.{header_of, header_size}
 use Rattle.dnw_message_read.specs.Messages.{FailsFrom, FailsHere, FailsItem, FailsWithin, Item, ItemAt, ItemsAt, MessageValue, Part, PartsAt, QueryValue, Rest, done, next, none, one_more, sections_of, query_of, record_in, rest_of}
 use Rattle.dnw_message_read.specs.MessageLaws.{MessagesDontFail, OneMessageError, OneMessage}
 use Rattle.dnw_message_read.proofs.InTurn.{item_is}

@@ -7,8 +7,8 @@ use Rattle.dnw_base.specs.Decoder.{Decoder}
 use Rattle.dnw_message_read.specs.declared.error.MessageError.{MessageError}
 use Rattle.dnw_message_read.specs.declared.error.Section.{Section}
 use Rattle.dnw_message_read.specs.declared.error.Section.TheVariants as section
-use Rattle.dnw_message_header.specs.declared.header.Header.{Header}
-use Rattle.dnw_message_header.specs.Headers.{header_of, header_size}
+use Rattle.dnw_message_read.specs.declared.header.Header.{Header}
+use Rattle.dnw_message_read.specs.Headers.{header_of, header_size}
 use Rattle.dnw_message_read.specs.Messages.{FailsFrom, FailsMessage, Item, ItemsAt, MessageAt, Part, PartsAt, Rest, SectionsBegin, done, next, none, one_more, part, sections_of, query_of, question_rest, record_in, record_rest, rest_of}
 use Rattle.dnw_message_read.specs.Inside.Kept.{AreLeft, EndAt, IsKept, items_in, message_in}
 use Rattle.dnw_message_read.specs.Inside.Passing.{PassesItems, any_opt, opt_at}

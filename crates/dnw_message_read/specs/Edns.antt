@@ -9,8 +9,8 @@ use Rattle.dnw_base.specs.Limits.{min_payload}
 use Rattle.dnw_record.specs.Records.{RecordValue, data_octets, number_at}
 use Rattle.dnw_message_read.specs.declared.edns.EdnsError.{EdnsError}
 use Rattle.dnw_message_read.specs.declared.edns.EdnsError.TheVariants.{CutOption, Decode, OwnerNotRoot}
-use Rattle.dnw_message_header.specs.declared.response_code.ResponseCode.{ResponseCode}
-use Rattle.dnw_message_header.specs.ResponseCodes.{response_code, response_of_code}
+use Rattle.dnw_message_read.specs.declared.response_code.ResponseCode.{ResponseCode}
+use Rattle.dnw_message_read.specs.ResponseCodes.{response_code, response_of_code}
 use Rattle.dnw_message_read.specs.Messages.{MessageValue}
 
 -- ---- options

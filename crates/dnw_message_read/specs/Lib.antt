@@ -1,3 +1,8 @@
+pub mod OpCodes
+pub mod ResponseCodes
+pub mod Headers
+pub mod HeaderLaws
+pub mod Responses
 pub mod Edns
 pub mod Messages
 pub mod MessageLaws

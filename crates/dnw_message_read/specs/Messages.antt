@@ -8,8 +8,8 @@ use Rattle.dnw_base.specs.declared.error.DecodeError.{DecodeError}
 use Rattle.dnw_base.specs.declared.error.DecodeError.TheVariants.{InsufficientBytes}
 use Rattle.dnw_name_read.specs.Reading.{FaultAt, NameAt}
 use Rattle.dnw_record.specs.Records.{RecordValue, fixed_at, fixed_size, length_field, number_at, record_of}
-use Rattle.dnw_message_header.specs.Headers.{header_of, header_size}
-use Rattle.dnw_message_header.specs.declared.header.Header.{Header}
+use Rattle.dnw_message_read.specs.Headers.{header_of, header_size}
+use Rattle.dnw_message_read.specs.declared.header.Header.{Header}
 use Rattle.dnw_message_read.specs.declared.message.SectionOffsets.{SectionOffsets}
 use Rattle.dnw_message_read.specs.declared.error.MessageError.{MessageError}
 use Rattle.dnw_message_read.specs.declared.error.MessageErrorKind.{MessageErrorKind}

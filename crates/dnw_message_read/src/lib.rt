@@ -1,8 +1,8 @@
 //! Whole messages (RFC 1035, section 4): their sections, which are read without a copy, and what they say by EDNS; and EDNS options,
-//! typed (IANA's registry "DNS EDNS0 Option Codes (OPT)").
+//! typed (IANA's registry "DNS EDNS0 Option Codes (OPT)"). The header and its codes (RFC 1035, section 4.1.1, and RFC 6895) are here too.
 //!
-//! It stands on headers, names and records. Read `specs/Messages.antt` first: what a message is. Of options,
-//! `specs/Rules.antt` says what each may say, and the octets that say it.
+//! It stands on names and records. Read `specs/Headers.antt` first: what a header is, and then `specs/Messages.antt`: what a message
+//! is. Of options, `specs/Rules.antt` says what each may say, and the octets that say it.
 //!
 //! A message that is read:
 //!
@@ -23,12 +23,15 @@
 pub mod code;
 pub mod edns;
 pub mod error;
+pub mod header;
 pub mod items;
 pub mod laws;
 pub mod message;
+pub mod op_code;
 pub mod option;
 pub mod option_error;
 pub mod option_laws;
 mod passing;
 pub mod query;
+pub mod response_code;
 mod text;

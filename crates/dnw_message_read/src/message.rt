@@ -1,21 +1,21 @@
 //! Messages, which are read without copying.
 ghost use Rattle.std.specs.Prelude.{◌≡◌, [], ℕ, ◌<◌, ◌≤◌, length, drop, slice_range, IfOk, IfErr};
 ghost use Rattle.std.specs.Bool.{FalseIff};
-ghost use Rattle.dnw_message_header.specs.Headers.{header_of, header_size};
+ghost use Rattle.dnw_message_read.specs.Headers.{header_of, header_size};
 ghost use Rattle.dnw_message_read.specs.Edns.{FailsEdns, FailsOnlyOpt, HasEdns, HasOpt, IsOnlyOpt, IsResponseCode, opts_in, opts_outside};
 ghost use Rattle.dnw_base.specs.Limits.{max_pointers};
 ghost use Rattle.dnw_message_read.specs.Messages.{MessageAt, FailsMessage, SectionsBegin, no_header};
 
 use crate::edns::{EdnsError, EdnsRef, next_opt};
 use crate::error::{MessageError, MessageErrorKind, Section};
+use crate::header::Header;
 use crate::items::{Queries, Records};
 use crate::passing::pass_section;
+use crate::response_code::ResponseCode;
 use dnw_base::decoder::BinDecoder;
 use dnw_base::error::DecodeError;
 use dnw_base::limits::MAX_POINTERS;
 use dnw_base::record_type::RecordType;
-use dnw_message_header::header::Header;
-use dnw_message_header::response_code::ResponseCode;
 use dnw_record::record_ref::RecordRef;
 use std::marker::Model;
 

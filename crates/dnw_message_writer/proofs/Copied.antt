@@ -5,7 +5,7 @@ use Rattle.std.proofs.lemmas.List.{append-nil}
 use Rattle.dnw_base.specs.DnsClasses.{class_code}
 use Rattle.dnw_base.specs.RecordTypes.{type_code}
 use Rattle.dnw_record.specs.Records.{RecordValue}
-use Rattle.dnw_message_header.specs.Headers.{flags_of}
+use Rattle.dnw_message_read.specs.Headers.{flags_of}
 use Rattle.dnw_message_read.specs.Messages.{MessageValue, QueryValue}
 use Rattle.dnw_message_writer.specs.Contents.{AddedItems, AddedQuestion, AddedRecord, HoldsItems, cut_flags, no_items, with_question, with_records}
 use Rattle.dnw_message_writer.specs.Copying.{CopiesMessage, CopiesSets, copied_form, held_from, held_in, no_room, none_left, one_set, query_form, sets_of}

@@ -7,8 +7,8 @@ use Rattle.std.proofs.lemmas.Nat.{from_be_bytes-to_be_bytes_2, from_be_bytes-to_
 use Rattle.dnw_base.specs.DnsClasses.{class_of_code}
 use Rattle.dnw_base.specs.RecordTypes.{type_of_code}
 use Rattle.dnw_record.specs.Records.{class_field, fixed_at, length_field, number_at, ttl_field, type_field}
-use Rattle.dnw_message_header.specs.Headers.{header_field, header_of, metadata_of}
-use Rattle.dnw_message_header.specs.declared.header.Header.{Header}
+use Rattle.dnw_message_read.specs.Headers.{header_field, header_of, metadata_of}
+use Rattle.dnw_message_read.specs.declared.header.Header.{Header}
 use Rattle.dnw_message_read.specs.Messages.{Item, ItemAt, ItemsAt, MessageValue, Rest, done, next, none, one_more, query_of, question_rest, record_in, record_rest}
 use Rattle.dnw_message_read.proofs.OneMessage.{not_both, one_message}
 use Rattle.dnw_message_writer.specs.Contents.{AddedItems, AddedQuestion, AddedRecord, HoldsItems, PiecesStand, ReadsAsQuestion, ReadsAsRecord, StayInTurn, fields_before, most_followed}

@@ -6,7 +6,7 @@ use Rattle.dnw_base.specs.RecordTypes.{type_code}
 use Rattle.dnw_data.specs.Table.{fields_of}
 use Rattle.dnw_record.specs.DataCopies.{Copies, data_start, record_kinds}
 use Rattle.dnw_record.specs.Records.{RecordValue}
-use Rattle.dnw_message_header.specs.Headers.{flags_of}
+use Rattle.dnw_message_read.specs.Headers.{flags_of}
 use Rattle.dnw_message_read.specs.Messages.{MessageValue, QueryValue}
 use Rattle.dnw_message_writer.specs.Contents.{AddedItems, AddedQuestion, AddedRecord, HoldsItems, cut_flags}
 use Rattle.dnw_message_writer.specs.Copying.{CopiesMessage, held_in, is_missing, sets_of}

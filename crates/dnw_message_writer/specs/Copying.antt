@@ -7,7 +7,7 @@ use Rattle.dnw_base.specs.RecordTypes.{type_code}
 use Rattle.dnw_record.specs.DataCopies.{Copies, FailsToCopy, data_start, record_kinds}
 use Rattle.dnw_record.specs.Records.{RecordValue}
 use Rattle.dnw_record.specs.declared.rdata.RDataError.TheVariants.{Field}
-use Rattle.dnw_message_header.specs.Headers.{flags_of}
+use Rattle.dnw_message_read.specs.Headers.{flags_of}
 use Rattle.dnw_message_read.specs.Edns.{FailsEdns}
 use Rattle.dnw_message_read.specs.Messages.{MessageValue, QueryValue}
 use Rattle.dnw_message_read.specs.declared.edns.EdnsError.{EdnsError}

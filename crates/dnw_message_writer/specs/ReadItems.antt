@@ -7,8 +7,8 @@ use Rattle.dnw_data.specs.Table.{fields_of}
 use Rattle.dnw_record.specs.DataCopies.{Copies, data_start, record_kinds}
 use Rattle.dnw_record.specs.RecordFields.{up_to_end}
 use Rattle.dnw_record.specs.Records.{HasDataName, RecordValue, data_octets}
-use Rattle.dnw_message_header.specs.Headers.{metadata_of}
-use Rattle.dnw_message_header.specs.declared.header.HeaderCounts.{HeaderCounts}
+use Rattle.dnw_message_read.specs.Headers.{metadata_of}
+use Rattle.dnw_message_read.specs.declared.header.HeaderCounts.{HeaderCounts}
 use Rattle.dnw_message_read.specs.Messages.{FailsMessage, MessageAt, MessageValue, QueryValue}
 use Rattle.dnw_message_read.specs.declared.error.MessageError.{MessageError}
 use Rattle.dnw_message_writer.specs.Contents.{AddedItems, AddedQuestion, AddedRecord, HoldsItems, PiecesStand, most_followed}

@@ -3,7 +3,7 @@ ghost use Rattle.std.specs.Prelude.{◌≡◌, ◌∷◌, ◌<◌, ◌≤◌, �
 ghost use Rattle.dnw_base.specs.Names.{AreLabels};
 ghost use Rattle.dnw_data.specs.Table.{fields_of};
 ghost use Rattle.dnw_record.specs.DataPieces.{IsData};
-ghost use Rattle.dnw_message_header.specs.Headers.{flags_of};
+ghost use Rattle.dnw_message_read.specs.Headers.{flags_of};
 ghost use Rattle.dnw_message_writer.specs.Copying.{AreOfOneSet, CopiesHeld, CopiesMessage, CopiesQuestions, CopiesSections, CopiesSets, FailsHeld, FailsQuestions, FailsSections, FailsSets, FailsToAddCopy, FailsToAddQuery, FailsToCopyMessage, StopsAmong, StopsInSet, copied_form, held_from, is_answer, is_held, is_missing, own_octets, query_form, sets_of};
 ghost use Rattle.dnw_message_writer.specs.Inside.CopiedSets.{AddsFirstSet, first_of};
 ghost use Rattle.dnw_message_writer.specs.Inside.Turns.{KeptCount};

@@ -12,7 +12,7 @@ ghost use Rattle.dnw_base.specs.Names.{NameValue, AreLabels, encoded_size, IsWil
 ghost use Rattle.dnw_name_read.specs.Reading.{TakesName, StopsAt};
 ghost use Rattle.dnw_name_form.specs.Inside.WireBytes.{labels_of, IsWire};
 ghost use Rattle.dnw_name_form.specs.Edits.{append_label, prepend_label, append_name, append_domain, base_name, trim_to, into_wildcard};
-ghost use Rattle.dnw_name_ascii.specs.NameText.{max_text, name_text, name_from_text, name_from_text_at, IsLabelText};
+ghost use Rattle.dnw_name_text.specs.AsciiText.{max_text, name_text, name_from_text, name_from_text_at, IsLabelText};
 ghost use Rattle.dnw_name_text.specs.NameReading.{name_of_text, origin_labels};
 ghost use Rattle.dnw_name_text.specs.NameTexts.{text_of_name};
 ghost use Rattle.dnw_name_order.specs.Order.{IsLocalhost, IsZoneOfCase, IsZoneOf};
@@ -24,7 +24,6 @@ use arrayvec::ArrayString;
 use dnw_base::decoder::BinDecoder;
 use dnw_base::error::{DecodeError, ProtoError, ProtoResult};
 use dnw_base::limits::MAX_NAME;
-use dnw_name_ascii::text;
 use dnw_name_form::form::WireForm;
 use dnw_name_form::label::IntoLabel;
 pub use dnw_name_form::label_iter::LabelIter;
@@ -33,7 +32,7 @@ use dnw_name_order::order;
 use dnw_name_read::walk::ReadSteps;
 use dnw_name_text::error::NameTextError;
 use dnw_name_text::printing::push_name;
-use dnw_name_text::reading;
+use dnw_name_text::{ascii, reading};
 use std::alloc::{AllocError, Global};
 use std::fmt;
 use std::marker::Model;
@@ -467,7 +466,7 @@ impl Name {
     pub fn to_text(&self, alloc: Global) -> Result<String, AllocError>
         ensures { IfOk result (λ text. string_bytes text ≡ text_of_name self.now) }
     {
-        let mut text = ArrayString::<{ text::MAX_TEXT }>::new();
+        let mut text = ArrayString::<{ ascii::MAX_TEXT }>::new();
         push_name(&mut text, self.wire_labels(), self.is_fqdn);
         let mut out = String::new(alloc);
         out.push_str(text.as_str())?;
@@ -484,7 +483,7 @@ impl Name {
     pub fn from_ascii(alloc: Global, name: &str) -> ProtoResult<Self>
         ensures follows { Follows (name_from_text (chars name.now)) (NeedsErrorText (name_from_text (chars name.now))) result }
     {
-        let parsed = text::read(alloc, name)?;
+        let parsed = ascii::read(alloc, name)?;
         Ok(Name {
             is_fqdn: parsed.is_fqdn,
             form: parsed.form,
@@ -521,7 +520,7 @@ impl Name {
     /// text, `from_ascii` gives the name back. It has at most 1004 bytes.
     ///
     /// It fails with `Memory`, but not for the relative name without labels, whose text is empty.
-    #[tactic(auto, using(dnw_name_ascii::proofs::ReadBack::read_back, dnw_name_ascii::proofs::TextSizes::texts_are_short))]
+    #[tactic(auto, using(dnw_name_text::proofs::ReadBack::read_back, dnw_name_text::proofs::TextSizes::texts_are_short))]
     pub fn to_ascii(&self, alloc: Global) -> ProtoResult<String>
         ensures ok { IfOk result (λ text. string_bytes text ≡ name_text self.now) }
         ensures reads_back { AllByRecursion IsLabelText self.now.labels → IfOk result (λ text. name_from_text (chars (string_bytes text)) ≡ Ok self.now) }
@@ -535,7 +534,7 @@ impl Name {
     }
 
     /// Returns `true` if the text is empty: the name is relative and has no labels.
-    #[tactic(auto, using(dnw_base::proofs::Wires::no_labels_size, dnw_name_ascii::proofs::TextSizes::some_text))]
+    #[tactic(auto, using(dnw_base::proofs::Wires::no_labels_size, dnw_name_text::proofs::TextSizes::some_text))]
     fn has_no_text(&self) -> bool
         ensures none { IsTrue result → name_text self.now ≡ [] }
         ensures some { result ≡ false → 1 ≤ length (name_text self.now) }
@@ -600,8 +599,8 @@ impl fmt::Display for Name {
     ghost output = { λ n. Some (name_text n) };
 
     fn fmt<W: fmt::Write>(&self, f: &mut fmt::Formatter<W>) -> fmt::Result {
-        let mut text = ArrayString::<{ text::MAX_TEXT }>::new();
-        text::push_labels_text(&mut text, self.wire_labels());
+        let mut text = ArrayString::<{ ascii::MAX_TEXT }>::new();
+        ascii::push_labels_text(&mut text, self.wire_labels());
         if self.is_fqdn {
             text.push('.');
         }

@@ -8,8 +8,8 @@ use Rattle.std.specs.declared.net.ip_addr.IpAddr.TheVariants.{V4, V6}
 use Rattle.std.proofs.lemmas.List.{reverse-append, reverse-reverse, length-map, length-reverse, map-append}
 use Rattle.dnw_base.specs.Labels.{IsLabel}
 use Rattle.dnw_base.specs.Names.{AreLabels, encoded_size}
-use Rattle.dnw_name_ascii.specs.NameText.{IsLabelText, name_from_text, name_text}
-use Rattle.dnw_name_ascii.proofs.ReadBack.{read_back}
+use Rattle.dnw_name_text.specs.AsciiText.{IsLabelText, name_from_text, name_text}
+use Rattle.dnw_name_text.proofs.ReadBack.{read_back}
 use Rattle.dnw_name_arpa.specs.NetTexts.{net_addr, ip_size}
 use Rattle.dnw_name_arpa.specs.Arpa.{ArpaPrefix, IsArpaPrefix, arpa, arpa_labels, arpa_name, arpa_prefix, family_label, nibbles, ip_prefix, most_values, padded, reverse_name, value_bits, value_label}
 use Rattle.dnw_name_arpa.specs.ArpaLaws.{IsIpAddr, AddressesArePrefixes, AddressesComeBack}

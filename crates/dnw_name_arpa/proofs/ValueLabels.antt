@@ -12,7 +12,7 @@ use Rattle.dnw_base.specs.Labels.{IsLabel}
 use Rattle.dnw_base.specs.Names.{encoded_size}
 use Rattle.dnw_base.proofs.Wires.{encoded_size_cons}
 use Rattle.dnw_name_form.specs.LabelText.{may_begin, may_follow}
-use Rattle.dnw_name_ascii.specs.NameText.{IsLabelText}
+use Rattle.dnw_name_text.specs.AsciiText.{IsLabelText}
 use Rattle.dnw_name_arpa.specs.Arpa.{GiveValues, octet_of, value_bits, value_label, value_of}
 use Rattle.dnw_name_arpa.specs.declared.reading.Family.{Family}
 use Rattle.dnw_name_arpa.specs.declared.reading.Family.TheVariants.{Ipv4, Ipv6}

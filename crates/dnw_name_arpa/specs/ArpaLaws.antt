@@ -5,7 +5,7 @@ use Rattle.std.specs.Str.{chars}
 use Rattle.std.specs.declared.net.ip_addr.IpAddr.{IpAddr}
 use Rattle.dnw_base.specs.declared.error.ProtoError.{ProtoError}
 use Rattle.dnw_base.specs.Names.{NameValue}
-use Rattle.dnw_name_ascii.specs.NameText.{name_from_text, name_text}
+use Rattle.dnw_name_text.specs.AsciiText.{name_from_text, name_text}
 use Rattle.dnw_name_arpa.specs.NetTexts.{net_addr, net_prefix_len, ip_size}
 use Rattle.dnw_name_arpa.specs.declared.net.IpNet.{IpNet}
 use Rattle.dnw_name_arpa.specs.Arpa.{ArpaPrefix, arpa_name, GivesPrefix, IsArpaPrefix, arpa_prefix, ip_prefix, reverse_name}

@@ -4,8 +4,8 @@ use Rattle.std.specs.List.{join_with_byte}
 use Rattle.std.proofs.lemmas.List.{length-append}
 use Rattle.dnw_base.specs.Names.{AreLabels, NameValue}
 use Rattle.dnw_name_form.specs.LabelText.{dot}
-use Rattle.dnw_name_ascii.specs.NameText.{max_text}
-use Rattle.dnw_name_ascii.proofs.TextSizes.{text_room, text_room_cons, room_short}
+use Rattle.dnw_name_text.specs.AsciiText.{max_text}
+use Rattle.dnw_name_text.proofs.AsciiSizes.{text_room, text_room_cons, room_short}
 use Rattle.dnw_name_text.specs.NameTexts.{name_octet, label_octets, labels_text, text_of_name}
 use Rattle.dnw_name_text.proofs.Joining.{dot_after_each}
 

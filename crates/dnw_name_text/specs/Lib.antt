@@ -1,4 +1,6 @@
 pub mod NameTexts
 pub mod NameReading
 pub mod NameTextLaws
+pub mod AsciiText
+pub mod AsciiFaults
 pub mod Inside

@@ -6,11 +6,11 @@ ghost use Rattle.dnw_base.specs.Limits.{max_name};
 ghost use Rattle.dnw_base.specs.Labels.{IsLabel};
 ghost use Rattle.dnw_base.specs.Names.{encoded_size};
 ghost use Rattle.dnw_name_form.specs.LabelText.{dot};
-ghost use Rattle.dnw_name_ascii.specs.NameText.{max_text};
+ghost use Rattle.dnw_name_text.specs.AsciiText.{max_text};
 ghost use Rattle.dnw_name_text.specs.NameTexts.{is_special, name_octet, label_octets, text_of_name};
 
+pub use crate::ascii::MAX_TEXT;
 use arrayvec::ArrayString;
-pub use dnw_name_ascii::text::MAX_TEXT;
 use dnw_name_form::wire_labels::WireLabels;
 
 /// Writes the text of the name with these labels: a dot after each if it is fully qualified, or else between them. The root is `.`, and

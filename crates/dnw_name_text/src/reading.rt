@@ -7,11 +7,11 @@ ghost use Rattle.dnw_name_form.specs.Edits.{with_labels};
 ghost use Rattle.dnw_name_form.specs.LabelText.{dot, backslash};
 ghost use Rattle.dnw_name_text.specs.NameReading.{element, ended, labels_from, labels_of_text, name_of_text, one_label_more, or_too_long};
 
+use crate::ascii::Parsed;
 use crate::error::{NameTextError, NameTextRule};
 use crate::plain::is_own;
 use arrayvec::ArrayVec;
 use dnw_base::limits::MAX_LABEL;
-use dnw_name_ascii::text::Parsed;
 use dnw_name_form::form::WireForm;
 use dnw_name_form::wire_labels::WireLabels;
 use std::alloc::Global;

@@ -5,7 +5,7 @@ use Rattle.std.specs.Hash.{HashWrites}
 use Rattle.std.specs.declared.cmp.Ordering.{Ordering}
 use Rattle.dnw_base.specs.RecordTypes.{type_cmp, type_hash}
 use Rattle.dnw_name_order.specs.Order.{name_cmp_case, name_eq_case}
-use Rattle.dnw_name_lower.specs.LowerNames.{lower_name_hash_input}
+use Rattle.dnw_name_zones.specs.LowerNames.{lower_name_hash_input}
 use Rattle.dnw_name_zones.specs.declared.rr_key.RrKey.{RrKey}
 
 -- by name, in canonical order (RFC 4034, section 6.1), and then by type

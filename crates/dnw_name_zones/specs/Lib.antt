@@ -1,3 +1,5 @@
+pub mod AddressTexts
+pub mod LowerNames
 pub mod Usages
 pub mod Zones
 pub mod Keys

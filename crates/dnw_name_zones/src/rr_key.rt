@@ -4,9 +4,9 @@ ghost use Rattle.std.specs.Ordering.{as_partial_cmp};
 ghost use Rattle.dnw_name_zones.specs.Keys.{key_cmp, key_eq, key_hash};
 ghost use Rattle.dnw_name_zones.specs.Inside.KeyLaws.{keys_total, keys_equal, keys_per, keys_tied, keys_ordered, keys_hash_alike};
 
+use crate::lower_name::LowerName;
 use dnw_base::error::ProtoResult;
 use dnw_base::record_type::RecordType;
-use dnw_name_lower::lower_name::LowerName;
 use std::cmp::Ordering;
 use std::hash::{Hash, Hasher};
 

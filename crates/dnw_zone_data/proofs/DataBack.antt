@@ -18,7 +18,7 @@ use Rattle.dnw_data.proofs.Taking.{moves_on}
 use Rattle.dnw_record.specs.Records.{RecordValue}
 use Rattle.dnw_record.specs.RecordFields.{record_fields}
 use Rattle.dnw_zone_values.specs.Octets.{IsOctets}
-use Rattle.dnw_zone_svcb.proofs.ParamTextsBack.{drop_fit, take_fit}
+use Rattle.dnw_zone_values.proofs.ParamTextsBack.{drop_fit, take_fit}
 use Rattle.dnw_data.specs.FieldWires.{field_wire}
 use Rattle.dnw_zone_data.specs.declared.number_form.NumberForm.{NumberForm}
 use Rattle.dnw_zone_data.specs.declared.number_form.NumberForm.TheVariants.{Decimal}

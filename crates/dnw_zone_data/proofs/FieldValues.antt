@@ -24,7 +24,7 @@ use Rattle.dnw_data.specs.Values.{FieldValue, name, u16, u48, u64, counted, long
 use Rattle.dnw_data.proofs.Shaping.{long_is}
 use Rattle.dnw_zone_values.specs.Octets.{IsOctets}
 use Rattle.dnw_zone_values.specs.Strings.{IsString}
-use Rattle.dnw_zone_svcb.proofs.ParamTextsBack.{drop_fit, halves, octets_fit, segments_fit, take_fit}
+use Rattle.dnw_zone_values.proofs.ParamTextsBack.{drop_fit, halves, octets_fit, segments_fit, take_fit}
 use Rattle.dnw_data.specs.FieldWires.{field_wire}
 use Rattle.dnw_zone_data.specs.DataTextLaws.{FieldComesBack}
 use Rattle.dnw_zone_data.proofs.FieldsBack.{first, u8_back, u16_back, u32_back, time_back, type_back, ipv4_back, string_back, tag_back, salt_back, hash_back, octets_back, text_back, strings_back}

@@ -23,7 +23,7 @@ use Rattle.dnw_zone_values.specs.Octets.{IsOctets, IsHexText, IsBase64Text, IsSa
 use Rattle.dnw_zone_values.specs.Strings.{IsTextWithin}
 use Rattle.dnw_zone_values.specs.Times.{IsDateText, IsTimeText}
 use Rattle.dnw_zone_values.proofs.ComeBack.{base64}
-use Rattle.dnw_zone_svcb.specs.Params.{ParamValue, in_key_order, params_wire}
+use Rattle.dnw_zone_values.specs.Params.{ParamValue, in_key_order, params_wire}
 use Rattle.dnw_zone_data.proofs.ParamWalks.{one_params}
 use Rattle.dnw_data.specs.FieldWires.{field_wire}
 use Rattle.dnw_zone_data.specs.declared.number_form.NumberForm.{NumberForm}

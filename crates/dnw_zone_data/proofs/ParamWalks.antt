@@ -4,13 +4,13 @@ use Rattle.std.specs.Prelude.{Some, None}
 use Rattle.std.specs.declared.alloc.AllocError.{AllocError}
 use Rattle.std.proofs.lemmas.List.{take_at, drop_at}
 use Rattle.std.proofs.lemmas.Option.{same_Some}
-use Rattle.dnw_zone_svcb.specs.Params.{ParamValue, in_key_order, params_wire}
+use Rattle.dnw_zone_values.specs.Params.{ParamValue, in_key_order, params_wire}
 use Rattle.dnw_data.specs.Values.{FieldValue}
-use Rattle.dnw_zone_svcb.specs.Mandatory.{keeps_mandatory}
-use Rattle.dnw_zone_svcb.specs.ParamTexts.{params_text}
-use Rattle.dnw_zone_svcb.specs.ParamWords.{IsParam}
-use Rattle.dnw_zone_svcb.specs.Inside.Steps.{WritesValue}
-use Rattle.dnw_zone_svcb.proofs.Steps.{one_word}
+use Rattle.dnw_zone_values.specs.Mandatory.{keeps_mandatory}
+use Rattle.dnw_zone_values.specs.ParamTexts.{params_text}
+use Rattle.dnw_zone_values.specs.ParamWords.{IsParam}
+use Rattle.dnw_zone_values.specs.Inside.Steps.{WritesValue}
+use Rattle.dnw_zone_values.proofs.Steps.{one_word}
 use Rattle.dnw_zone_data.specs.Words.{after_spaces, param_word, after_param}
 use Rattle.dnw_zone_data.specs.Appending.{Appended}
 use Rattle.dnw_zone_data.specs.ParamLists.{PrintsParams, AreParamWords, AreParams}

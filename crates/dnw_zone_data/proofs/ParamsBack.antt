@@ -12,16 +12,16 @@ use Rattle.dnw_data.specs.Lists.{fault_within, list_fault}
 use Rattle.dnw_data.specs.Values.{params, items}
 use Rattle.dnw_zone_values.specs.Octets.{IsOctets}
 use Rattle.dnw_zone_values.specs.Strings.{quote, string_text}
-use Rattle.dnw_zone_svcb.specs.ParamKeys.{named_key}
-use Rattle.dnw_zone_svcb.specs.ParamLaws.{IsParamValue}
-use Rattle.dnw_zone_svcb.specs.Params.{ParamValue, param_wire, params_wire, in_key_order}
-use Rattle.dnw_zone_svcb.specs.Mandatory.{keeps_mandatory}
-use Rattle.dnw_zone_svcb.specs.ParamTexts.{param_text, params_within}
-use Rattle.dnw_zone_svcb.specs.ParamWords.{IsParam, is_equals, key_part}
-use Rattle.dnw_zone_svcb.specs.Inside.Steps.{AreBelow}
-use Rattle.dnw_zone_svcb.proofs.Ascending.{with_last}
-use Rattle.dnw_zone_svcb.proofs.ParamTextsBack.{IsShaped, all_key, is_key, no_equals, below_more, below_weaker, drop_fit, map_some, param_shaped, params as param-back, take_fit}
-use Rattle.dnw_zone_svcb.proofs.Steps.{word_some}
+use Rattle.dnw_zone_values.specs.ParamKeys.{named_key}
+use Rattle.dnw_zone_values.specs.ParamLaws.{IsParamValue}
+use Rattle.dnw_zone_values.specs.Params.{ParamValue, param_wire, params_wire, in_key_order}
+use Rattle.dnw_zone_values.specs.Mandatory.{keeps_mandatory}
+use Rattle.dnw_zone_values.specs.ParamTexts.{param_text, params_within}
+use Rattle.dnw_zone_values.specs.ParamWords.{IsParam, is_equals, key_part}
+use Rattle.dnw_zone_values.specs.Inside.Steps.{AreBelow}
+use Rattle.dnw_zone_values.proofs.Ascending.{with_last}
+use Rattle.dnw_zone_values.proofs.ParamTextsBack.{IsShaped, all_key, is_key, no_equals, below_more, below_weaker, drop_fit, map_some, param_shaped, params as param-back, take_fit}
+use Rattle.dnw_zone_values.proofs.Steps.{word_some}
 use Rattle.dnw_zone_data.specs.ParamLists.{AreParamWords, AreParams}
 use Rattle.dnw_zone_data.specs.Words.{is_end, is_word_end, param_len, param_word, word_len, word, after_spaces}
 use Rattle.dnw_zone_data.specs.Generic.{generic_mark}

@@ -13,7 +13,7 @@ use Rattle.dnw_base.specs.declared.record_type.RecordType.{RecordType}
 use Rattle.dnw_data.specs.TypeSets.{bits, bit_codes, octets_codes, window_size}
 use Rattle.dnw_data.proofs.Windows.{bits_next}
 use Rattle.dnw_base.specs.RecordTypes.{registered_type, type_of_text}
-use Rattle.dnw_zone_svcb.specs.Inside.Steps.{IsSpaced}
+use Rattle.dnw_zone_values.specs.Inside.Steps.{IsSpaced}
 use Rattle.dnw_zone_data.specs.Words.{after_spaces, word, after_word}
 use Rattle.dnw_zone_data.specs.TypeLists.{is_window, codes_within, code_text, codes_text, PrintsTypes, IsTypeWord, AreTypeWords}
 use Rattle.dnw_zone_data.specs.Appending.{AppendedInPart}

@@ -15,7 +15,7 @@ use Rattle.dnw_data.specs.Values.{types, items}
 use Rattle.dnw_data.specs.TypeSets.{Window, window, window_bytes, windows_codes, octets_codes, set_codes, EndsInBit, NumbersFrom, IsWritten}
 use Rattle.dnw_data.proofs.Sets.{empty_ascends, settled_already, sorted_end, sorted_more}
 use Rattle.dnw_zone_values.specs.Octets.{IsOctets}
-use Rattle.dnw_zone_svcb.proofs.ParamTextsBack.{drop_fit, map_some}
+use Rattle.dnw_zone_values.proofs.ParamTextsBack.{drop_fit, map_some}
 use Rattle.dnw_zone_data.specs.Words.{is_end, word, after_spaces}
 use Rattle.dnw_zone_data.specs.TypeLists.{is_window, codes_within, codes_text, IsTypeWord, AreTypeWords, AreBitmap, AreTypes}
 use Rattle.dnw_zone_data.proofs.CodesWithin.{Within, octets_within, within_less}

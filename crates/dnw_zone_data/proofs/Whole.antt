@@ -1,7 +1,7 @@
 -- A text that is appended in part is taken back.
 use Rattle.std.proofs.Common.{◌≡◌, ℕ, Bool, true, false, List, length, take}
 use Rattle.std.specs.String.Boundary.{IsSplitPoint}
-use Rattle.dnw_zone_svcb.proofs.Steps.{may_cut, cut_off}
+use Rattle.dnw_zone_values.proofs.Steps.{may_cut, cut_off}
 use Rattle.dnw_zone_data.specs.Appending.{Appended, AppendedInPart}
 
 -- it may be cut off

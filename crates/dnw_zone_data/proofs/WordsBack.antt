@@ -16,8 +16,8 @@ use Rattle.dnw_zone_values.specs.Pairs.{lower_digit, pairs_text}
 use Rattle.dnw_zone_values.proofs.Identifiers.{pairs}
 use Rattle.dnw_zone_values.specs.Numbers.{max_u48}
 use Rattle.dnw_zone_values.specs.Octets.{IsOctets, base64_text}
-use Rattle.dnw_zone_svcb.proofs.ParamTextsBack.{bare_open, ipv6_bare, base64_open, base64_some}
-use Rattle.dnw_zone_svcb.proofs.Steps.{no_colon_hex}
+use Rattle.dnw_zone_values.proofs.ParamTextsBack.{bare_open, ipv6_bare, base64_open, base64_some}
+use Rattle.dnw_zone_values.proofs.Steps.{no_colon_hex}
 use Rattle.dnw_zone_data.specs.Words.{is_end, word, after_spaces, without_spaces}
 use Rattle.dnw_zone_data.specs.Parsing.{AllSpell, ReadsField}
 use Rattle.dnw_zone_data.specs.Generic.{generic_mark}

@@ -1,7 +1,7 @@
 -- What a call that prints or parses a part appends.
 use Rattle.std.specs.Prelude.{◌≡◌, ℕ, Bool, true, false, List, ◌++◌}
 use Rattle.dnw_data.specs.Values.{FieldValue}
-use Rattle.dnw_zone_svcb.specs.Inside.Steps.{AppendsSpaced}
+use Rattle.dnw_zone_values.specs.Inside.Steps.{AppendsSpaced}
 use Rattle.dnw_data.specs.FieldWires.{field_wire}
 
 -- A text of these is appended, or there is none and nothing is appended.

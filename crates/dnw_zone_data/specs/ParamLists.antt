@@ -3,10 +3,10 @@
 use Rattle.std.specs.Prelude.{ℕ, ◌≡◌, ◌≢◌, true, List, [], ◌∷◌, Some}
 use Rattle.dnw_data.specs.declared.kind.ListKind.TheVariants as lists
 use Rattle.dnw_data.specs.Values.{FieldValue, params, items}
-use Rattle.dnw_zone_svcb.specs.Params.{ParamValue, in_key_order, params_wire}
-use Rattle.dnw_zone_svcb.specs.Mandatory.{keeps_mandatory}
-use Rattle.dnw_zone_svcb.specs.ParamTexts.{params_text}
-use Rattle.dnw_zone_svcb.specs.ParamWords.{IsParam}
+use Rattle.dnw_zone_values.specs.Params.{ParamValue, in_key_order, params_wire}
+use Rattle.dnw_zone_values.specs.Mandatory.{keeps_mandatory}
+use Rattle.dnw_zone_values.specs.ParamTexts.{params_text}
+use Rattle.dnw_zone_values.specs.ParamWords.{IsParam}
 use Rattle.dnw_zone_data.specs.Words.{after_spaces, param_word, after_param}
 
 -- The text is that of the parameters that octets are, each after a space. There is none if a key that is mandatory is left out.

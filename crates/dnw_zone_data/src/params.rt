@@ -1,14 +1,14 @@
 //! Lists of service parameters (RFC 9460, section 2.1).
 ghost use Rattle.std.specs.Prelude.{◌≡◌, List, [], Some, IfOk, MatchOption, string_bytes};
-ghost use Rattle.dnw_zone_svcb.specs.Params.{ParamValue, in_key_order};
+ghost use Rattle.dnw_zone_values.specs.Params.{ParamValue, in_key_order};
 ghost use Rattle.dnw_zone_data.specs.ParamLists.{AreParamWords, AreParams, PrintsParams};
 ghost use Rattle.dnw_zone_data.specs.Appending.{Appended, AppendsOne};
 
 use crate::words::{after_spaces, split_param};
-use dnw_zone_svcb::mandatory::keeps_mandatory;
-use dnw_zone_svcb::param::{Param, push_params, sort_params};
-use dnw_zone_svcb::printing::write_params;
-use dnw_zone_svcb::word::parse_param;
+use dnw_zone_values::mandatory::keeps_mandatory;
+use dnw_zone_values::param::{Param, push_params, sort_params};
+use dnw_zone_values::printing::write_params;
+use dnw_zone_values::word::parse_param;
 use std::alloc::{AllocError, Global};
 
 /// Appends the octets of the parameters that all words are, in the order of their keys. Returns `false` if one is no parameter, if

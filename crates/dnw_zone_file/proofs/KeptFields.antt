@@ -30,9 +30,9 @@ use Rattle.dnw_zone_values.specs.Base32.{base32_text, is_base32}
 use Rattle.dnw_zone_values.specs.Octets.{IsOctets, salt_text}
 use Rattle.dnw_zone_values.specs.Pairs.{lower_digit, pairs_text}
 use Rattle.dnw_zone_values.specs.Strings.{string_text}
-use Rattle.dnw_zone_svcb.specs.Params.{ParamValue}
-use Rattle.dnw_zone_svcb.specs.ParamTexts.{param_text, params_within}
-use Rattle.dnw_zone_svcb.proofs.ParamTextsBack.{IsShaped, bare_open, base64_open, drop_fit, ipv6_bare, map_some, param_shaped, segments_fit, take_fit}
+use Rattle.dnw_zone_values.specs.Params.{ParamValue}
+use Rattle.dnw_zone_values.specs.ParamTexts.{param_text, params_within}
+use Rattle.dnw_zone_values.proofs.ParamTextsBack.{IsShaped, bare_open, base64_open, drop_fit, ipv6_bare, map_some, param_shaped, segments_fit, take_fit}
 use Rattle.dnw_zone_data.specs.DataTexts.{IsDataText, IsPlainData, without_space}
 use Rattle.dnw_zone_data.specs.Generic.{generic_text, hex_part}
 use Rattle.dnw_zone_data.specs.Printing.{Prints, PrintsFields, base64_part, strings_text}

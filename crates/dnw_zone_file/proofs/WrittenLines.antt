@@ -21,7 +21,7 @@ use Rattle.dnw_zone_data.specs.NameReading.{named_at}
 use Rattle.dnw_zone_data.specs.Words.{is_end, is_space, word, after_word}
 use Rattle.dnw_zone_data.proofs.FieldsBack.{type_other, type_plain, type_some}
 use Rattle.dnw_zone_data.proofs.NamesBack.{name_len}
-use Rattle.dnw_zone_svcb.proofs.ParamTextsBack.{drop_fit, take_fit}
+use Rattle.dnw_zone_values.proofs.ParamTextsBack.{drop_fit, take_fit}
 use Rattle.dnw_zone_data.proofs.NumberFormsBack.{period}
 use Rattle.dnw_zone_data.proofs.Plain.{all_plain, decimal_plain, plain_after, plain_append, plain_starts, plain_utf8, plain_word}
 use Rattle.dnw_zone_file.specs.declared.entry.LineKind.TheVariants.{OwnerFirst}

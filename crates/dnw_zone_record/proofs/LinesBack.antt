@@ -20,7 +20,7 @@ use Rattle.dnw_data.specs.declared.kind.Kind.{Kind}
 use Rattle.dnw_data.specs.Table.{fields_of}
 use Rattle.dnw_record.specs.Records.{RecordValue, record_of, fixed_at, number_at}
 use Rattle.dnw_zone_values.specs.Octets.{IsOctets}
-use Rattle.dnw_zone_svcb.proofs.ParamTextsBack.{drop_fit, take_fit}
+use Rattle.dnw_zone_values.proofs.ParamTextsBack.{drop_fit, take_fit}
 use Rattle.dnw_name_text.specs.NameTexts.{full_name_text}
 use Rattle.dnw_zone_data.specs.declared.number_form.NumberForm.{NumberForm}
 use Rattle.dnw_zone_data.specs.NumberForms.{number_forms}

@@ -5,7 +5,7 @@ ghost use Rattle.dnw_zone_data.specs.DataTextLaws.{DataAreUnambiguous, PrintedDa
 ghost use Rattle.dnw_zone_record.specs.RecordTextLaws.{LinesAreUnambiguous, LinesComeBack, PrintedLinesAreSame};
 
 pub use dnw_zone_data::laws::{data_come_back, fields_come_back, generic_comes_back};
-pub use dnw_zone_svcb::laws::params_come_back;
+pub use dnw_zone_values::param_laws::params_come_back;
 
 /// A record that is printed as a line comes back.
 pub fn lines_come_back()

@@ -1,3 +1,8 @@
+pub mod Steps
+pub mod Ascending
+pub mod Sorting
+pub mod ParamTextsBack
+pub mod MandatoryKeys
 pub mod ComeBack
 pub mod HexText
 pub mod StringText

@@ -1,2 +1,3 @@
 -- What no public clause cites: what the parts of a call find.
 pub mod Takes
+pub mod Steps

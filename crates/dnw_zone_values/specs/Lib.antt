@@ -1,3 +1,11 @@
+pub mod ParamKeys
+pub mod CommaLists
+pub mod Params
+pub mod ParamValues
+pub mod ParamTexts
+pub mod ParamWords
+pub mod Mandatory
+pub mod ParamLaws
 pub mod Spelling
 pub mod Numbers
 pub mod Mnemonics

@@ -4,7 +4,7 @@ use Rattle.dnw_base.specs.Decoder.{Decoder}
 use Rattle.dnw_data.specs.declared.kind.Kind.{Kind}
 use Rattle.dnw_c_base.specs.declared.failure.Failure.{Failure}
 use Rattle.dnw_c_messages.specs.Listings.{Halts, Listing, ListSteps, Task, fields, items}
-use Rattle.dnw_message_header.specs.declared.header.HeaderCounts.{HeaderCounts}
+use Rattle.dnw_message_read.specs.declared.header.HeaderCounts.{HeaderCounts}
 use Rattle.dnw_message_read.specs.declared.error.Section.{Section}
 use Rattle.dnw_message_read.specs.declared.error.Section.TheVariants as section
 use Rattle.dnw_c_messages.specs.declared.rows.Listed.{Listed}

@@ -4,8 +4,8 @@ use Rattle.std.specs.Bool.{FalseIff}
 use Rattle.dnw_base.specs.Limits.{max_label, max_labels}
 use Rattle.dnw_name_read.specs.Inside.Found.{labels_at}
 use Rattle.dnw_record.specs.Records.{RecordValue}
-use Rattle.dnw_message_header.specs.declared.header.Header.{Header}
-use Rattle.dnw_message_header.specs.Headers.{header_size}
+use Rattle.dnw_message_read.specs.declared.header.Header.{Header}
+use Rattle.dnw_message_read.specs.Headers.{header_size}
 use Rattle.dnw_message_read.specs.Edns.{opts_in}
 use Rattle.dnw_message_read.specs.Messages.{Item, ItemsAt, MessageValue, QueryValue, Rest, query_of, question_rest, record_in, record_rest}
 

@@ -8,7 +8,7 @@ use Rattle.dnw_base.specs.RecordTypes.{type_cmp, type_hash}
 use Rattle.dnw_base.specs.Inside.RecordTypeLaws.{types_hash_alike, types_total, types_equal}
 use Rattle.dnw_name_order.specs.Order.{name_cmp_case, name_eq_case}
 use Rattle.dnw_name_order.specs.OrderLaws.{name_cmp_case_total, name_eq_case_equiv, name_case_ties}
-use Rattle.dnw_name_lower.specs.LowerNames.{lower_name_hash_input, lower_name_hash_alike}
+use Rattle.dnw_name_zones.specs.LowerNames.{lower_name_hash_input, lower_name_hash_alike}
 use Rattle.dnw_name_zones.specs.declared.rr_key.RrKey.{RrKey}
 use Rattle.dnw_name_zones.specs.Keys.{key_cmp, key_eq, key_hash}
 

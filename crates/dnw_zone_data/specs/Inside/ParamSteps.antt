@@ -1,7 +1,7 @@
 -- Words that are parameters, one after another.
 use Rattle.std.specs.Prelude.{◌≡◌, ◌≢◌, ℕ, List, [], ◌∷◌}
-use Rattle.dnw_zone_svcb.specs.Params.{ParamValue}
-use Rattle.dnw_zone_svcb.specs.ParamWords.{IsParam}
+use Rattle.dnw_zone_values.specs.Params.{ParamValue}
+use Rattle.dnw_zone_values.specs.ParamWords.{IsParam}
 use Rattle.dnw_zone_data.specs.Words.{after_spaces, param_word, after_param}
 
 -- The first words of a text are these parameters, and this is left.

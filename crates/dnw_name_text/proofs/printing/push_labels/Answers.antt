@@ -2,7 +2,7 @@ use Rattle.std.proofs.Common.{sym, ap, ◌∙◌, List, ℕ, ◌++◌, length, r
 use Rattle.std.specs.List.{flat_map}
 use Rattle.std.proofs.lemmas.List.{append-nil}
 use Rattle.dnw_name_text.proofs.Joining.{dotted, joined_cons}
-use Rattle.dnw_name_ascii.proofs.TextSizes.{text_room, text_room_cons, room_short}
+use Rattle.dnw_name_text.proofs.AsciiSizes.{text_room, text_room_cons, room_short}
 use Rattle.dnw_name_text.proofs.printing.push_labels.Goals as goal
 
 pub loop-label-init : goal.loop-label-init

@@ -3,8 +3,8 @@ use Rattle.std.specs.List.{flat_map}
 use Rattle.arrayvec.specs.ArrayString.{array_string_len}
 use Rattle.dnw_name_form.specs.LabelText.{dot}
 use Rattle.dnw_name_text.specs.NameTexts.{label_octets}
-use Rattle.dnw_name_ascii.specs.NameText.{max_text}
-use Rattle.dnw_name_ascii.proofs.TextSizes.{text_room}
+use Rattle.dnw_name_text.specs.AsciiText.{max_text}
+use Rattle.dnw_name_text.proofs.AsciiSizes.{text_room}
 use Rattle.dnw_name_text.proofs.printing.push_labels.Given as goal
 
 -- what is written, and what is left, make what the labels after the first are written as

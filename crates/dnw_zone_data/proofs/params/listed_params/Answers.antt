@@ -1,7 +1,7 @@
 use Rattle.std.proofs.Common.{List, ℕ, [], ◌∷◌, ◌++◌, sym, ap, ◌∙◌, subst, arith}
-use Rattle.dnw_zone_svcb.specs.Params.{ParamValue}
-use Rattle.dnw_zone_svcb.specs.ParamWords.{IsParam}
-use Rattle.dnw_zone_svcb.proofs.Steps.{word_some}
+use Rattle.dnw_zone_values.specs.Params.{ParamValue}
+use Rattle.dnw_zone_values.specs.ParamWords.{IsParam}
+use Rattle.dnw_zone_values.proofs.Steps.{word_some}
 use Rattle.dnw_zone_data.specs.Words.{after_spaces, param_word}
 use Rattle.dnw_zone_data.specs.Inside.ParamSteps.{LeadToParams}
 use Rattle.dnw_zone_data.proofs.Empty.{is_empty, not_empty}

@@ -1,5 +1,5 @@
 use Rattle.std.proofs.Common.{◌≡◌, [], None, Some, sym, ap, ◌∙◌}
-use Rattle.dnw_zone_svcb.specs.Params.{in_key_order}
+use Rattle.dnw_zone_values.specs.Params.{in_key_order}
 use Rattle.dnw_zone_data.proofs.ParamWalks.{one_params}
 use Rattle.dnw_zone_data.proofs.params.params_of_words.Goals as goal
 

@@ -1,8 +1,8 @@
 use Rattle.std.proofs.Common.{◌≡◌, true, false, ◌++◌, List, ℕ, refl, sym, ap, ◌∙◌, arith}
 use Rattle.dnw_data.specs.declared.kind.ListKind.TheVariants as lists
 use Rattle.dnw_data.specs.Values.{params, items}
-use Rattle.dnw_zone_svcb.specs.Mandatory.{keeps_mandatory}
-use Rattle.dnw_zone_svcb.specs.Params.{ParamValue, params_wire}
+use Rattle.dnw_zone_values.specs.Mandatory.{keeps_mandatory}
+use Rattle.dnw_zone_values.specs.Params.{ParamValue, params_wire}
 use Rattle.dnw_zone_data.proofs.ParamWalks.{appended, not_kept}
 use Rattle.dnw_zone_data.proofs.params.parse_params.Goals as goal
 

@@ -3,7 +3,7 @@ use Rattle.std.specs.Prelude.{flat_map, string_bytes}
 use Rattle.std.proofs.lemmas.List.{take-append-drop}
 use Rattle.dnw_base.specs.Names.{label_wire}
 use Rattle.dnw_zone_values.specs.Strings.{string_text}
-use Rattle.dnw_zone_svcb.specs.Inside.Steps.{IsSpaced}
+use Rattle.dnw_zone_values.specs.Inside.Steps.{IsSpaced}
 use Rattle.dnw_zone_data.specs.Printing.{strings_text}
 use Rattle.dnw_zone_data.proofs.Strings.{cut_short, last, taken}
 use Rattle.dnw_zone_data.proofs.printing.push_strings.Goals as goal

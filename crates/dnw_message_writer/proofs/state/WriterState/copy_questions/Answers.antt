@@ -1,5 +1,5 @@
 use Rattle.std.proofs.Common.{◌≡◌, ap}
-use Rattle.dnw_message_header.specs.declared.header.Header.{Header}
+use Rattle.dnw_message_read.specs.declared.header.Header.{Header}
 use Rattle.dnw_message_writer.proofs.Opts.{if_err_as, on_ok_as}
 use Rattle.dnw_message_writer.proofs.state.WriterState.copy_questions.Goals as goal
 

@@ -1,5 +1,0 @@
-use Rattle.dnw_name_ascii.proofs.LabelTexts.{Begins_run}
-use Rattle.dnw_name_ascii.proofs.text.run_of.Goals as goal
-
-pub returns : goal.returns
-returns c = let run = rw c.as_bytes.ensures.value at c.run_len.ensures.run in Begins_run _ _ c.utf8.text run.few run.simple

@@ -1,2 +1,0 @@
-pub mod TextReader
-pub mod TextProgress

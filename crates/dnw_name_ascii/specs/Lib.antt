@@ -1,3 +1,0 @@
-pub mod NameText
-pub mod TextFaults
-pub mod Inside

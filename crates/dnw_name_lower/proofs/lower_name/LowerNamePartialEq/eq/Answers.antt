@@ -1,5 +1,0 @@
-use Rattle.dnw_name_lower.proofs.Lowered.{name_eq_case_test}
-use Rattle.dnw_name_lower.proofs.lower_name.LowerNamePartialEq.eq.Goals as goal
-
-pub returns : goal.returns
-returns c = rw (← c.self.view_is, ← c.other.view_is) (name_eq_case_test c.self.inside.0 c.other.inside.0 c.eq_case.result c.eq_case.ensures)

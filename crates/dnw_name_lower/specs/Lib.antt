@@ -1,2 +1,0 @@
-pub mod AddressTexts
-pub mod LowerNames

@@ -1,6 +1,0 @@
-use Rattle.std.proofs.Common.{◌≡◌, ◌++◌, take}
-use Rattle.dnw_zone_svcb.specs.Params.{params_wire}
-use Rattle.dnw_zone_svcb.proofs.param.push_params.Given as goal
-
-abbrev pub invariant-loop-param : goal.invariant-loop-param
-invariant-loop-param l = l.out.items ≡ l.fn.out.items ++ params_wire (take l.param-index l.params)

@@ -1,2 +1,0 @@
--- What no public clause cites: what the parts of a call return.
-pub mod Steps
