@@ -520,7 +520,7 @@ impl Name {
     /// text, `from_ascii` gives the name back. It has at most 1004 bytes.
     ///
     /// It fails with `Memory`, but not for the relative name without labels, whose text is empty.
-    #[tactic(auto, using(dnw_name_text::proofs::ReadBack::read_back, dnw_name_text::proofs::TextSizes::texts_are_short))]
+    #[tactic(auto, using(dnw_name_text::proofs::ReadBack::read_back, dnw_name_text::proofs::AsciiSizes::texts_are_short))]
     pub fn to_ascii(&self, alloc: Global) -> ProtoResult<String>
         ensures ok { IfOk result (λ text. string_bytes text ≡ name_text self.now) }
         ensures reads_back { AllByRecursion IsLabelText self.now.labels → IfOk result (λ text. name_from_text (chars (string_bytes text)) ≡ Ok self.now) }
@@ -534,7 +534,7 @@ impl Name {
     }
 
     /// Returns `true` if the text is empty: the name is relative and has no labels.
-    #[tactic(auto, using(dnw_base::proofs::Wires::no_labels_size, dnw_name_text::proofs::TextSizes::some_text))]
+    #[tactic(auto, using(dnw_base::proofs::Wires::no_labels_size, dnw_name_text::proofs::AsciiSizes::some_text))]
     fn has_no_text(&self) -> bool
         ensures none { IsTrue result → name_text self.now ≡ [] }
         ensures some { result ≡ false → 1 ≤ length (name_text self.now) }
