@@ -18,9 +18,28 @@ pub(crate) fn answer(
     tally: &mut Tally,
 ) -> ProtoResult<String> {
     match kind {
+        "lex" | "lex-cuts" | "lex-texts" | "lex-zone" | "time" | "times" => {
+            tokens::answer(alloc, kind, words, tally)
+        }
+        "decode" | "from-bytes" => decoding::answer(alloc, kind, words),
+        "restrict" => restrict::answer(alloc, words),
+        "encode" | "encode-numbered" | "to-bytes" => encoding::answer(alloc, kind, words),
+        "script" | "script-end" | "script-replies" | "script-done" | "items" => {
+            scripts::answer(alloc, kind, words)
+        }
+        "error" => errors::answer(alloc, words),
+        "extremes" | "clamp" => bounds::answer(alloc, kind, words),
+        _ => of_names(alloc, kind, words),
+    }
+}
+
+/// Makes a request about names, or one of `of_records`.
+fn of_names(alloc: Global, kind: &str, words: &str) -> ProtoResult<String> {
+    match kind {
         "readings" | "read" | "cuts" | "octets" | "pairs" | "chain" | "blocks" => {
             readings::answer(alloc, kind, words)
         }
+        "walk" | "borrowed" => walking::answer(alloc, kind, words),
         "text" | "print" | "parse" | "origin" => texts::answer(alloc, kind, words),
         "label" | "label-text" | "into-label" => labels::answer(alloc, kind, words),
         "made"
@@ -49,9 +68,14 @@ pub(crate) fn answer(
         | "append_domain"
         | "back"
         | "lower-name"
-        | "tests" => { ordering::answer(alloc, kind, words) }
-        "walk" | "borrowed" => walking::answer(alloc, kind, words),
-        "extremes" | "clamp" => bounds::answer(alloc, kind, words),
+        | "tests" => ordering::answer(alloc, kind, words),
+        _ => of_records(alloc, kind, words),
+    }
+}
+
+/// Makes a request about codes, nets or records.
+fn of_records(alloc: Global, kind: &str, words: &str) -> ProtoResult<String> {
+    match kind {
         "class"
         | "class-cmp"
         | "class-name"
@@ -70,24 +94,7 @@ pub(crate) fn answer(
         | "type"
         | "type-cmp"
         | "type-name"
-        | "types" => codes::answer(alloc, kind, words),
-        "decode" | "from-bytes" => decoding::answer(alloc, kind, words),
-        "restrict" => restrict::answer(alloc, words),
-        "encode" | "encode-numbered" | "to-bytes" => encoding::answer(alloc, kind, words),
-        "script" | "script-end" | "script-replies" | "script-done" | "items" => {
-            scripts::answer(alloc, kind, words)
-        }
-        "error" => errors::answer(alloc, words),
-        "fields" => fields::answer(alloc, words),
-        "record" => records::answer(alloc, words),
-        "data-text" | "data-parse" => data_texts::answer(alloc, kind, words),
-        "record-set" => record_sets::answer(alloc, words),
-        "key-tag" | "ds" | "nsec3" | "nsec-covers" | "nsec3-covers" | "zone-digest" => {
-            dnssec::answer(alloc, kind, words)
-        }
-        "lex" | "lex-cuts" | "lex-texts" | "lex-zone" | "time" | "times" => {
-            tokens::answer(alloc, kind, words, tally)
-        }
+        | "types" => { codes::answer(alloc, kind, words) }
         "ip"
         | "arpa"
         | "arpa-error"
@@ -98,6 +105,13 @@ pub(crate) fn answer(
         | "zone-is"
         | "to-ip"
         | "into" => nets::answer(alloc, kind, words),
+        "fields" => fields::answer(alloc, words),
+        "record" => records::answer(alloc, words),
+        "data-text" | "data-parse" => data_texts::answer(alloc, kind, words),
+        "record-set" => record_sets::answer(alloc, words),
+        "key-tag" | "ds" | "nsec3" | "nsec-covers" | "nsec3-covers" | "zone-digest" => {
+            dnssec::answer(alloc, kind, words)
+        }
         _ => Err(BAD_LINE),
     }
 }
