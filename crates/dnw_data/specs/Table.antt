@@ -59,7 +59,7 @@ prefixes = kinds.List lists.Prefixes
 abbrev pub names : Kind
 names = kinds.List lists.Names
 
--- the types of a code below 45
+-- the types of a code up to 30
 abbrev pub early_rows : List Row
 early_rows =
     row 1 (Ipv4 ∷ [])  -- A (RFC 1035, section 3.4.1)
@@ -92,7 +92,12 @@ early_rows =
     ∷ row 28 (Ipv6 ∷ [])  -- AAAA (RFC 3596, section 2.2)
     ∷ row 29 (Shaped shapes.Location ∷ [])  -- LOC (RFC 1876, section 2)
     ∷ row 30 (lowered_name ∷ other ∷ [])  -- NXT (RFC 2535, section 5.2)
-    ∷ row 33 (U16 ∷ U16 ∷ U16 ∷ lowered_name ∷ [])  -- SRV (RFC 2782)
+    ∷ []
+
+-- those from there to 68
+abbrev pub middle_rows : List Row
+middle_rows =
+    row 33 (U16 ∷ U16 ∷ U16 ∷ lowered_name ∷ [])  -- SRV (RFC 2782)
     ∷ row 35 (U16 ∷ U16 ∷ text ∷ text ∷ text ∷ lowered_name ∷ [])  -- NAPTR (RFC 3403, section 4.1)
     ∷ row 36 (U16 ∷ lowered_name ∷ [])  -- KX (RFC 2230, section 3)
     ∷ row 37 (U16 ∷ U16 ∷ U8 ∷ base64 ∷ [])  -- CERT (RFC 4398, section 2)
@@ -100,12 +105,7 @@ early_rows =
     ∷ row 42 (prefixes ∷ [])  -- APL (RFC 3123, section 4)
     ∷ row 43 (U16 ∷ U8 ∷ U8 ∷ hex ∷ [])  -- DS (RFC 4034, section 5.1)
     ∷ row 44 (U8 ∷ U8 ∷ hex ∷ [])  -- SSHFP (RFC 4255, section 3.1)
-    ∷ []
-
--- the others
-abbrev pub late_rows : List Row
-late_rows =
-    row 45 (U8 ∷ Shaped shapes.Gateway ∷ base64 ∷ [])  -- IPSECKEY (RFC 4025, section 2.1)
+    ∷ row 45 (U8 ∷ Shaped shapes.Gateway ∷ base64 ∷ [])  -- IPSECKEY (RFC 4025, section 2.1)
     ∷ row 46 (TypeCode ∷ U8 ∷ U8 ∷ U32 ∷ Time ∷ Time ∷ U16 ∷ lowered_name ∷ base64 ∷ [])  -- RRSIG (RFC 4034, section 3.1)
     ∷ row 47 (plain ∷ types ∷ [])  -- NSEC (RFC 4034, section 4.1)
     ∷ row 48 (U16 ∷ U8 ∷ U8 ∷ base64 ∷ [])  -- DNSKEY (RFC 4034, section 2.1)
@@ -128,7 +128,12 @@ late_rows =
     ∷ row 66 (TypeCode ∷ U8 ∷ U16 ∷ plain ∷ [])  -- DSYNC (RFC 9859, section 2.1)
     ∷ row 67 (base64 ∷ [])  -- HHIT (RFC 9886, section 5.1)
     ∷ row 68 (base64 ∷ [])  -- BRID (RFC 9886, section 5.2)
-    ∷ row 99 (texts ∷ [])  -- SPF (RFC 4408, section 3.1.1)
+    ∷ []
+
+-- and the others
+abbrev pub late_rows : List Row
+late_rows =
+    row 99 (texts ∷ [])  -- SPF (RFC 4408, section 3.1.1)
     ∷ row 104 (U16 ∷ Locator ∷ [])  -- NID (RFC 6742, section 2.1.1)
     ∷ row 105 (U16 ∷ Ipv4 ∷ [])  -- L32 (RFC 6742, section 2.2.1)
     ∷ row 106 (U16 ∷ Locator ∷ [])  -- L64 (RFC 6742, section 2.3.1)
@@ -152,7 +157,7 @@ late_rows =
 
 -- the table of the types
 abbrev pub table : List Row
-table = early_rows ++ late_rows
+table = early_rows ++ (middle_rows ++ late_rows)
 
 -- the fields of the type with this code, by the rows: octets, if it is in none of them (RFC 3597)
 abbrev pub fields_in : List Row → ℕ → List Kind

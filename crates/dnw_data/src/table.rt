@@ -1,9 +1,9 @@
 //! The table of the fields of each record type.
-ghost use Rattle.std.specs.Prelude.{◌≡◌, slice_index};
+ghost use Rattle.std.specs.Prelude.{◌++◌, ◌≡◌, slice_index};
 ghost use Rattle.dnw_base.specs.DnsClasses.{class_code};
 ghost use Rattle.dnw_base.specs.RecordTypes.{type_code};
 ghost use Rattle.dnw_data.specs.Table.{a6_fields, are_names_decompressed, fields_elsewhere, fields_in, fields_in_internet, fields_of};
-ghost use Rattle.dnw_data.specs.Table.{fields_of_some, is_internet_type, is_like_internet, late_rows, may_lack_data, table};
+ghost use Rattle.dnw_data.specs.Table.{fields_of_some, is_internet_type, is_like_internet, late_rows, may_lack_data, middle_rows, table};
 
 use crate::kind::{Kind, ListKind, NameForm, Shape, Shown};
 use crate::whole_name::octet_at;
@@ -60,6 +60,30 @@ const PREFIXES: Kind = Kind::List(ListKind::Prefixes);
 
 /// Names in their wire form up to the end.
 const NAMES: Kind = Kind::List(ListKind::Names);
+
+/// The fields of SOA.
+const AUTHORITY: [Kind; 7] = [
+    NAME,
+    NAME,
+    Kind::U32,
+    Kind::U32,
+    Kind::U32,
+    Kind::U32,
+    Kind::U32,
+];
+
+/// The fields of SIG and RRSIG.
+const SIGNATURE: [Kind; 9] = [
+    Kind::TypeCode,
+    Kind::U8,
+    Kind::U8,
+    Kind::U32,
+    Kind::Time,
+    Kind::Time,
+    Kind::U16,
+    LOWERED,
+    BASE64,
+];
 
 /// The code of A6.
 const A6: u16 = 38;
@@ -147,7 +171,7 @@ fn a6_fields(prefix: u8) -> &'static [Kind]
     &[Kind::Shaped(Shape::AddressSuffix), LOWERED]
 }
 
-/// Returns the kinds of the fields of a type by its code, but of A6.
+/// Returns the kinds of the fields of a type by its code, but of A6: here those of the types up to 30.
 fn early_fields_of(code: u16) -> &'static [Kind]
     ensures { result.now ≡ fields_in table code }
 {
@@ -157,16 +181,7 @@ fn early_fields_of(code: u16) -> &'static [Kind]
         3 => &[NAME], // MD
         4 => &[NAME], // MF
         5 => &[NAME], // CNAME
-        // SOA
-        6 => &[
-            NAME,
-            NAME,
-            Kind::U32,
-            Kind::U32,
-            Kind::U32,
-            Kind::U32,
-            Kind::U32,
-        ],
+        6 => &AUTHORITY, // SOA
         7 => &[NAME], // MB
         8 => &[NAME], // MG
         9 => &[NAME], // MR
@@ -184,24 +199,22 @@ fn early_fields_of(code: u16) -> &'static [Kind]
         21 => &[Kind::U16, LOWERED], // RT
         22 => &[HEX], // NSAP
         23 => &[PLAIN], // NSAP-PTR
-        // SIG
-        24 => &[
-            Kind::TypeCode,
-            Kind::U8,
-            Kind::U8,
-            Kind::U32,
-            Kind::Time,
-            Kind::Time,
-            Kind::U16,
-            LOWERED,
-            BASE64,
-        ],
+        24 => &SIGNATURE, // SIG
         25 => &[Kind::U16, Kind::U8, Kind::U8, BASE64], // KEY
         26 => &[Kind::U16, LOWERED, LOWERED], // PX
         27 => &[TEXT, TEXT, TEXT], // GPOS
         28 => &[Kind::Ipv6], // AAAA
         29 => &[Kind::Shaped(Shape::Location)], // LOC
         30 => &[LOWERED, OTHER], // NXT
+        middle_code => middle_fields_of(middle_code),
+    }
+}
+
+/// Returns the kinds of the fields of the types with a code of 31 to 68, but of A6, and of those above.
+fn middle_fields_of(code: u16) -> &'static [Kind]
+    ensures { result.now ≡ fields_in (middle_rows ++ late_rows) code }
+{
+    match code {
         33 => &[Kind::U16, Kind::U16, Kind::U16, LOWERED], // SRV
         35 => &[Kind::U16, Kind::U16, TEXT, TEXT, TEXT, LOWERED], // NAPTR
         36 => &[Kind::U16, LOWERED], // KX
@@ -210,28 +223,8 @@ fn early_fields_of(code: u16) -> &'static [Kind]
         42 => &[PREFIXES], // APL
         43 => &[Kind::U16, Kind::U8, Kind::U8, HEX], // DS
         44 => &[Kind::U8, Kind::U8, HEX], // SSHFP
-        late_code => late_fields_of(late_code),
-    }
-}
-
-/// Returns the kinds of the fields of the types with a code of 45 or more.
-fn late_fields_of(code: u16) -> &'static [Kind]
-    ensures { result.now ≡ fields_in late_rows code }
-{
-    match code {
         45 => &[Kind::U8, Kind::Shaped(Shape::Gateway), BASE64], // IPSECKEY
-        // RRSIG
-        46 => &[
-            Kind::TypeCode,
-            Kind::U8,
-            Kind::U8,
-            Kind::U32,
-            Kind::Time,
-            Kind::Time,
-            Kind::U16,
-            LOWERED,
-            BASE64,
-        ],
+        46 => &SIGNATURE, // RRSIG
         47 => &[PLAIN, TYPES], // NSEC
         48 => &[Kind::U16, Kind::U8, Kind::U8, BASE64], // DNSKEY
         49 => &[BASE64], // DHCID
@@ -253,6 +246,15 @@ fn late_fields_of(code: u16) -> &'static [Kind]
         66 => &[Kind::TypeCode, Kind::U8, Kind::U16, PLAIN], // DSYNC
         67 => &[BASE64], // HHIT
         68 => &[BASE64], // BRID
+        late_code => late_fields_of(late_code),
+    }
+}
+
+/// Returns the kinds of the fields of the types with a code above 68.
+fn late_fields_of(code: u16) -> &'static [Kind]
+    ensures { result.now ≡ fields_in late_rows code }
+{
+    match code {
         99 => &[TEXTS], // SPF
         104 => &[Kind::U16, Kind::Locator], // NID
         105 => &[Kind::U16, Kind::Ipv4], // L32

@@ -255,25 +255,15 @@ pub(crate) fn write_parts(parts: &mut Parts, max_size: u16) -> u64 {
             Err(_) => FAILURE,
         });
     }
-    failed = failed
-        .wrapping_add(write_records(
-            &mut writer,
-            room,
-            Section::Answers,
-            parts.answers.as_slice(),
-        ))
-        .wrapping_add(write_records(
-            &mut writer,
-            room,
-            Section::Authorities,
-            parts.authorities.as_slice(),
-        ))
-        .wrapping_add(write_records(
-            &mut writer,
-            room,
-            Section::Additionals,
-            parts.additionals.as_slice(),
-        ));
+    let sections = [
+        (Section::Answers, &parts.answers),
+        (Section::Authorities, &parts.authorities),
+        (Section::Additionals, &parts.additionals),
+    ];
+    for (section, records) in sections {
+        let missed = write_records(&mut writer, room, section, records.as_slice());
+        failed = failed.wrapping_add(missed);
+    }
     failed.wrapping_add(writer.end as u64)
 }
 

@@ -220,47 +220,24 @@ fn names_are_completed_by_the_origin(rt: HostRuntime) -> Result<(), Fail> {
 
 #[test]
 fn a_wrong_text_has_its_field_and_offset(rt: HostRuntime) {
-    let alloc = rt.alloc();
-    assert!(rt;
-        matches!(
-            parse(alloc, DNSClass::IN, RecordType::MX, "10  mail", None),
-            Err(DataTextError::Wanted {
-                field: 1,
-                offset: 4,
-                wanted: Wanted::Name,
-            })
-        )
-    );
-    assert!(rt;
-        matches!(
-            parse(alloc, DNSClass::IN, RecordType::A, "192.0.2.1 x", None),
-            Err(DataTextError::Wanted {
-                field: 1,
-                offset: 10,
-                wanted: Wanted::End,
-            })
-        )
-    );
-    assert!(rt;
-        matches!(
-            parse(alloc, DNSClass::IN, RecordType::A, "\\# 5 0A000001", None),
-            Err(DataTextError::Wanted {
-                field: 1,
-                offset: 5,
-                wanted: Wanted::Octets(5),
-            })
-        )
-    );
-    assert!(rt;
-        matches!(
-            parse(alloc, DNSClass::IN, RecordType::NULL, "0A", None),
-            Err(DataTextError::Wanted {
-                field: 0,
-                offset: 0,
-                wanted: Wanted::Generic,
-            })
-        )
-    );
+    for (record_type, text, (at_field, at_offset, what)) in [
+        (RecordType::MX, "10  mail", (1, 4, Wanted::Name)),
+        (RecordType::A, "192.0.2.1 x", (1, 10, Wanted::End)),
+        (RecordType::A, "\\# 5 0A000001", (1, 5, Wanted::Octets(5))),
+        (RecordType::NULL, "0A", (0, 0, Wanted::Generic)),
+    ] {
+        let outcome = parse(rt.alloc(), DNSClass::IN, record_type, text, None);
+        assert!(rt;
+            matches!(
+                outcome,
+                Err(DataTextError::Wanted {
+                    field,
+                    offset,
+                    wanted
+                }) if (field, offset, wanted) == (at_field, at_offset, what)
+            )
+        );
+    }
 }
 
 /// RFC 1035, section 5.1, lets a time to live and a class stand in either order.

@@ -13,6 +13,11 @@ const ANSWER: &[u8] =
 \xc0\x0c\x00\x0f\x00\x01\x00\x00\x00\x3c\x00\x07\x00\x0a\x02mx\xc0\x0c\
 \xc0\x29\x00\x01\x00\x01\x00\x00\x00\x3c\x00\x04\xc0\x00\x02\x01";
 
+/// The data of two addresses.
+const FIRST: &[u8] = b"\xc0\x00\x02\x01";
+
+const SECOND: &[u8] = b"\xc0\x00\x02\x02";
+
 fn no_message() -> WriterState {
     WriterState {
         end: 0,
@@ -24,60 +29,59 @@ fn no_message() -> WriterState {
     }
 }
 
+/// Adds `a.example. 60 IN MX 10 mx.a.example.` to the answers.
+fn add_exchange(
+    state: &mut WriterState,
+    buffer: &mut [u8],
+    owner: &Name,
+    host: &Name,
+) -> Result<(), WriteError> {
+    let data = [Piece::Octets(b"\x00\x0a"), Piece::Name(host.wire_labels())];
+    state.record(
+        buffer,
+        Section::Answers,
+        owner.wire_labels(),
+        15,
+        1,
+        60,
+        &data,
+    )
+}
+
+/// Adds `mx.a.example. 60 IN A 192.0.2.1` to the additional records.
+fn add_address(state: &mut WriterState, buffer: &mut [u8], host: &Name) -> Result<(), WriteError> {
+    let data = [Piece::Octets(b"\xc0\x00\x02\x01")];
+    state.record(
+        buffer,
+        Section::Additionals,
+        host.wire_labels(),
+        1,
+        1,
+        60,
+        &data,
+    )
+}
+
 #[test]
 fn an_answer_is_written_into_a_buffer(rt: HostRuntime) -> Result<(), Fail> {
     let alloc = rt.alloc();
-    let (owner, host) = (
-        Name::from_ascii(alloc, "a.example.")?,
-        Name::from_ascii(alloc, "mx.a.example.")?,
-    );
-    let mail = [Piece::Octets(b"\x00\x0a"), Piece::Name(host.wire_labels())];
-    let address = [Piece::Octets(b"\xc0\x00\x02\x01")];
+    let owner = Name::from_ascii(alloc, "a.example.")?;
+    let host = Name::from_ascii(alloc, "mx.a.example.")?;
     let mut buffer = [7; 80];
     let mut state = no_message();
-    assert!(rt;
-        state.question(&mut buffer, owner.wire_labels(), 15, 1) == Err(WriteError::NoMessage)
-    );
-    assert!(rt;
-        state
-            .begin(&mut buffer, 0x1234, 0x8180, ANSWER.len())
-            .is_ok()
-    );
-    assert!(rt;
-        state
-            .question(&mut buffer, owner.wire_labels(), 15, 1)
-            .is_ok()
-    );
-    let answers = Section::Answers;
-    assert!(rt;
-        state
-            .record(&mut buffer, answers, owner.wire_labels(), 15, 1, 60, &mail)
-            .is_ok()
-    );
-    let additionals = Section::Additionals;
-    let outcome = state.record(
-        &mut buffer,
-        additionals,
-        host.wire_labels(),
-        1,
-        1,
-        60,
-        &address,
-    );
-    assert!(rt; outcome.is_ok());
+    let early = state.question(&mut buffer, owner.wire_labels(), 15, 1);
+    assert!(rt; early == Err(WriteError::NoMessage));
+    let begun = state.begin(&mut buffer, 0x1234, 0x8180, ANSWER.len());
+    assert!(rt; begun.is_ok());
+    let asked = state.question(&mut buffer, owner.wire_labels(), 15, 1);
+    assert!(rt; asked.is_ok());
+    assert!(rt; add_exchange(&mut state, &mut buffer, &owner, &host).is_ok());
+    assert!(rt; add_address(&mut state, &mut buffer, &host).is_ok());
     assert!(rt; state.end == ANSWER.len() && &buffer[..state.end] == ANSWER);
-    let outcome = state.record(&mut buffer, answers, owner.wire_labels(), 15, 1, 60, &mail);
-    assert!(rt; outcome == Err(WriteError::OutOfOrder));
-    let outcome = state.record(
-        &mut buffer,
-        additionals,
-        host.wire_labels(),
-        1,
-        1,
-        60,
-        &address,
-    );
-    assert!(rt; outcome == Err(WriteError::NoRoom));
+    let late = add_exchange(&mut state, &mut buffer, &owner, &host);
+    assert!(rt; late == Err(WriteError::OutOfOrder));
+    let more = add_address(&mut state, &mut buffer, &host);
+    assert!(rt; more == Err(WriteError::NoRoom));
     assert!(rt; state.end == ANSWER.len() && &buffer[..state.end] == ANSWER);
     Ok(())
 }
@@ -89,71 +93,64 @@ fn no_buffer_of_less_than_a_header_has_a_message(rt: HostRuntime) {
     assert!(rt; outcome == Err(WriteError::NoRoom) && buffer == [7; 11]);
 }
 
-/// A set has no room if one of its records has none, and TC says so if it is required. The octets that are held back are for a
-/// last record, after which none follows.
-#[test]
-fn a_set_is_whole_or_left_out(rt: HostRuntime) -> Result<(), Fail> {
-    let alloc = rt.alloc();
-    let owner = Name::from_ascii(alloc, "a.")?;
-    let (first, second) = (
-        [Piece::Octets(b"\xc0\x00\x02\x01")],
-        [Piece::Octets(b"\xc0\x00\x02\x02")],
-    );
-    let set = [Data { pieces: &first }, Data { pieces: &second }];
+/// A message of at most 46 octets, whose answers are `a. 60 IN A 192.0.2.1`.
+fn after_one_address(owner: &Name) -> Result<(WriterState, [u8; 64]), WriteError> {
     let mut buffer = [0; 64];
     let mut state = no_message();
-    assert!(rt; state.begin(&mut buffer, 1, 0x8000, 46).is_ok());
-    let answers = Section::Answers;
-    assert!(rt;
-        state
-            .record_set(
-                &mut buffer,
-                answers,
-                owner.wire_labels(),
-                1,
-                1,
-                60,
-                &set[..1]
-            )
-            .is_ok()
-    );
+    state.begin(&mut buffer, 1, 0x8000, 46)?;
+    add_addresses(&mut state, &mut buffer, owner, 1)?;
+    Ok((state, buffer))
+}
+
+/// Adds so many of the addresses 192.0.2.1 and 192.0.2.2 to the answers, as one set.
+fn add_addresses(
+    state: &mut WriterState,
+    buffer: &mut [u8],
+    owner: &Name,
+    count: usize,
+) -> Result<(), WriteError> {
+    let (first, second) = ([Piece::Octets(FIRST)], [Piece::Octets(SECOND)]);
+    let set = [Data { pieces: &first }, Data { pieces: &second }];
+    let set = &set[..count.min(2)];
+    state.record_set(buffer, Section::Answers, owner.wire_labels(), 1, 1, 60, set)
+}
+
+/// A set has no room if one of its records has none, and TC says so if it is required.
+#[test]
+fn a_set_is_whole_or_left_out(rt: HostRuntime) -> Result<(), Fail> {
+    let owner = Name::from_ascii(rt.alloc(), "a.")?;
+    let (mut state, mut buffer) = after_one_address(&owner)?;
+    assert!(rt; state.end == 29);
     let before = buffer;
-    let outcome = state.record_set(&mut buffer, answers, owner.wire_labels(), 1, 1, 60, &set);
+    let outcome = add_addresses(&mut state, &mut buffer, &owner, 2);
     assert!(rt; outcome == Err(WriteError::NoRoom) && state.end == 29);
     assert!(rt; buffer[..29] == before[..29]);
+    let (first, second) = ([Piece::Octets(FIRST)], [Piece::Octets(SECOND)]);
+    let set = [Data { pieces: &first }, Data { pieces: &second }];
+    let answers = Section::Answers;
     let outcome = state.require_set(&mut buffer, answers, owner.wire_labels(), 1, 1, 60, &set);
     assert!(rt; outcome == Err(WriteError::NoRoom) && state.end == 29);
     assert!(rt; buffer[2] == 0x82 && buffer[7] == 1 && buffer[12..29] == before[12..29]);
+    Ok(())
+}
+
+/// The octets that are held back are for a last record, after which none follows.
+#[test]
+fn a_last_record_has_what_is_held_back(rt: HostRuntime) -> Result<(), Fail> {
+    let owner = Name::from_ascii(rt.alloc(), "a.")?;
+    let (mut state, mut buffer) = after_one_address(&owner)?;
+    assert!(rt; state.end == 29);
     state.hold_back(17);
-    assert!(rt;
-        state
-            .record_set(
-                &mut buffer,
-                answers,
-                owner.wire_labels(),
-                1,
-                1,
-                60,
-                &set[1..]
-            )
-            .is_err()
-    );
-    let last = state.last_record(&mut buffer, 17, owner.wire_labels(), 250, 255, 0, &second);
+    assert!(rt; add_addresses(&mut state, &mut buffer, &owner, 1).is_err());
+    let data = [Piece::Octets(SECOND)];
+    let last = state.last_record(&mut buffer, 17, owner.wire_labels(), 250, 255, 0, &data);
     assert!(rt; last.is_ok() && state.end == 45);
     assert!(rt;
         &buffer[29..45]
             == b"\xc0\x0c\x00\xfa\x00\xff\x00\x00\x00\x00\x00\x04\xc0\x00\x02\x02".as_slice()
     );
     state.max_size = 64;
-    let outcome = state.record_set(
-        &mut buffer,
-        answers,
-        owner.wire_labels(),
-        1,
-        1,
-        60,
-        &set[1..],
-    );
+    let outcome = add_addresses(&mut state, &mut buffer, &owner, 1);
     assert!(rt; outcome == Err(WriteError::OutOfOrder));
     Ok(())
 }

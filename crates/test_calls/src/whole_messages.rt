@@ -292,6 +292,14 @@ fn rules_of_edns(rt: HostRuntime) -> Result<(), Fail> {
     Ok(())
 }
 
+/// Returns `true` for the error of an `OPT` record in another section.
+fn is_misplaced<T>(found: &Result<T, EdnsError>) -> bool {
+    matches!(
+        found,
+        Err(EdnsError::Decode(DecodeError::RecordNotInAdditionalSection(RecordType::OPT)))
+    )
+}
+
 /// An `OPT` record as an answer or as an authority, alone or with one among the additional records, breaks the first rule of
 /// EDNS. It is a record of the message all the same.
 #[test]
@@ -304,30 +312,9 @@ fn opt_is_an_additional_record(rt: HostRuntime) -> Result<(), Fail> {
             assert_eq!(rt; message.answers().next().is_some(), is_answer);
             assert_eq!(rt; message.authorities().next().is_some(), !is_answer);
             assert_eq!(rt; message.additionals().next().is_some(), additionals == 1);
-            assert!(rt;
-                matches!(
-                    message.edns(),
-                    Err(EdnsError::Decode(DecodeError::RecordNotInAdditionalSection(
-                        RecordType::OPT
-                    )))
-                )
-            );
-            assert!(rt;
-                matches!(
-                    message.opt(),
-                    Err(EdnsError::Decode(DecodeError::RecordNotInAdditionalSection(
-                        RecordType::OPT
-                    )))
-                )
-            );
-            assert!(rt;
-                matches!(
-                    message.response_code(),
-                    Err(EdnsError::Decode(DecodeError::RecordNotInAdditionalSection(
-                        RecordType::OPT
-                    )))
-                )
-            );
+            assert!(rt; is_misplaced(&message.edns()));
+            assert!(rt; is_misplaced(&message.opt()));
+            assert!(rt; is_misplaced(&message.response_code()));
         }
         // A record of another type in the section, and the `OPT` record among the additional ones.
         let mut other = with([(section, 1), (11, 1)]);
@@ -336,12 +323,7 @@ fn opt_is_an_additional_record(rt: HostRuntime) -> Result<(), Fail> {
         // The `OPT` record in the section, before one of another type.
         let mut first = with([(section, 2), (11, 0)]);
         first[29] = 0x2a;
-        assert!(rt;
-            matches!(
-                MessageRef::read(&first)?.edns(),
-                Err(EdnsError::Decode(DecodeError::RecordNotInAdditionalSection(RecordType::OPT)))
-            )
-        );
+        assert!(rt; is_misplaced(&MessageRef::read(&first)?.edns()));
     }
     Ok(())
 }

@@ -12,6 +12,27 @@ const REFERRAL: &[u8] =
 \xc0\x14\x00\x02\x00\x01\x00\x02\xa3\x00\x00\x14\x01a\x0cgtld-servers\x03net\x00\
 \xc0\x29\x00\x01\x00\x01\x00\x00\x0e\x10\x00\x04\xc0\x00\x02\x01";
 
+/// Adds a record of IN.
+fn add(
+    writer: &mut WriterState,
+    room: &mut [u8],
+    section: Section,
+    owner: &Name,
+    record_type: u16,
+    ttl: u32,
+    data: &[u8],
+) -> Result<(), DataError> {
+    writer.record_data(
+        room,
+        section,
+        owner.wire_labels(),
+        record_type,
+        1,
+        ttl,
+        data,
+    )
+}
+
 #[test]
 fn items_one_by_one(rt: HostRuntime) -> Result<(), Fail> {
     let alloc = rt.alloc();
@@ -20,6 +41,7 @@ fn items_one_by_one(rt: HostRuntime) -> Result<(), Fail> {
     let first = Name::from_ascii(alloc, "ns1.example.com.")?;
     let second = Name::from_ascii(alloc, "ns2.example.com.")?;
     let other = Name::from_ascii(alloc, "a.gtld-servers.net.")?;
+    let address = b"\xc0\x00\x02\x01".as_slice();
     let mut buffer = [7; 512];
     let room = buffer.as_mut_slice();
     let mut writer = WriterState::new();
@@ -29,31 +51,17 @@ fn items_one_by_one(rt: HostRuntime) -> Result<(), Fail> {
         (Section::Answers, &child, 2, 3_600, first.as_wire()),
         (Section::Answers, &child, 2, 3_600, second.as_wire()),
         (Section::Authorities, &parent, 2, 172_800, other.as_wire()),
-        (
-            Section::Additionals,
-            &first,
-            1,
-            3_600,
-            b"\xc0\x00\x02\x01".as_slice(),
-        ),
+        (Section::Additionals, &first, 1, 3_600, address),
     ] {
-        writer.record_data(
-            room,
-            section,
-            owner.wire_labels(),
-            record_type,
-            1,
-            ttl,
-            data,
-        )?;
+        add(&mut writer, room, section, owner, record_type, ttl, data)?;
     }
     assert!(rt; writer.end == REFERRAL.len() && room.starts_with(REFERRAL));
-    let late = writer.record_data(
+    let late = add(
+        &mut writer,
         room,
         Section::Answers,
-        child.wire_labels(),
+        &child,
         2,
-        1,
         3_600,
         first.as_wire(),
     );

@@ -5,9 +5,9 @@ use dns_names_wire::data_text::{RecordEntryError, parse_entry, parse_record};
 use dns_names_wire::name::Name;
 use dns_names_wire::record::RecordRef;
 use dns_names_wire::zone::{
-    Context, Ending, Entry, Found, WordRule, ZoneError, ZoneRule, ZoneTextError, append_origin,
-    append_record, append_short_record, append_ttl, entry_of, place_of, read_records, scan,
-    take_entry,
+    Context, Ending, Entry, Found, OwnedRecord, WordRule, ZoneError, ZoneRule, ZoneTextError,
+    append_origin, append_record, append_short_record, append_ttl, entry_of, place_of,
+    read_records, scan, take_entry,
 };
 use std::alloc::Global;
 use std::test::Fail;
@@ -183,73 +183,60 @@ fn put_short(
     Ok(())
 }
 
+/// Records, the first before `$ORIGIN example.` and `$TTL 60`, and the others after it.
+const LINES: [&str; 9] = [
+    "b.example. 5 IN NS ns.example.",
+    "example. 60 IN TXT a",
+    "example. 5 IN TXT b",
+    "a\\.b.c.example. 60 CH TXT c",
+    "c.EXAMPLE. 60 IN A 192.0.2.1",
+    "C.EXAMPLE. 60 IN TYPE255 \\# 0",
+    "xexample. 60 IN A 192.0.2.1",
+    "\\@.example. 60 IN A 192.0.2.1",
+    ". 60 IN A 192.0.2.1",
+];
+
+/// These in short form.
+const SHORT: &[u8] =
+    b"b.example. 5 IN NS ns.example.\n$ORIGIN example.\n$TTL 60\n@ IN TXT \"a\"\n 5 IN TXT \"b\"\na\\.b.c CH TXT \"c\"\nc.EXAMPLE. IN A 192.0.2.1\nC.EXAMPLE. IN ANY \\# 0\nxexample. IN A 192.0.2.1\n\\@ IN A 192.0.2.1\n. IN A 192.0.2.1\n";
+
+/// Returns the octets of a record of a zone.
+fn octets_of(alloc: Global, found: &OwnedRecord) -> Result<Vec<u8>, Fail> {
+    let mut octets = Vec::from_slice(alloc, found.owner.as_bytes())?;
+    octets.extend_from_slice(&found.body.record_type.code().to_be_bytes())?;
+    octets.extend_from_slice(&found.body.class.code().to_be_bytes())?;
+    octets.extend_from_slice(&found.body.ttl.to_be_bytes())?;
+    octets.extend_from_slice(&[0, found.body.wire.len() as u8])?;
+    octets.extend_from_slice(found.body.wire.as_slice())?;
+    Ok(octets)
+}
+
 #[test]
 fn what_is_written_after_others_is_read(rt: HostRuntime) -> Result<(), Fail> {
     let alloc = rt.alloc();
     let origin = Name::from_ascii(alloc, "example.")?;
     let mut context = Context::new(Name::root(alloc));
     let mut text = Vec::new(alloc);
-    put_short(
-        alloc,
-        &mut context,
-        "b.example. 5 IN NS ns.example.",
-        &mut text,
-    )?;
+    put_short(alloc, &mut context, LINES[0], &mut text)?;
     append_origin(alloc, &mut context, &origin, &mut text)?;
     append_ttl(alloc, &mut context, 60, &mut text)?;
-    put_short(alloc, &mut context, "example. 60 IN TXT a", &mut text)?;
-    put_short(alloc, &mut context, "example. 5 IN TXT b", &mut text)?;
-    put_short(
-        alloc,
-        &mut context,
-        "a\\.b.c.example. 60 CH TXT c",
-        &mut text,
-    )?;
-    put_short(
-        alloc,
-        &mut context,
-        "c.EXAMPLE. 60 IN A 192.0.2.1",
-        &mut text,
-    )?;
-    put_short(
-        alloc,
-        &mut context,
-        "C.EXAMPLE. 60 IN TYPE255 \\# 0",
-        &mut text,
-    )?;
-    put_short(
-        alloc,
-        &mut context,
-        "xexample. 60 IN A 192.0.2.1",
-        &mut text,
-    )?;
-    put_short(
-        alloc,
-        &mut context,
-        "\\@.example. 60 IN A 192.0.2.1",
-        &mut text,
-    )?;
-    put_short(alloc, &mut context, ". 60 IN A 192.0.2.1", &mut text)?;
-    let wanted =
-        b"b.example. 5 IN NS ns.example.\n$ORIGIN example.\n$TTL 60\n@ IN TXT \"a\"\n 5 IN TXT \"b\"\na\\.b.c CH TXT \"c\"\nc.EXAMPLE. IN A 192.0.2.1\nC.EXAMPLE. IN ANY \\# 0\nxexample. IN A 192.0.2.1\n\\@ IN A 192.0.2.1\n. IN A 192.0.2.1\n";
-    assert_eq!(rt; text.as_slice(), wanted.as_slice());
-    let read = read_records(alloc, Name::from_ascii(alloc, "other.")?, text.as_slice())?;
-    let mut again = Vec::new(alloc);
-    let mut state = Context::new(Name::root(alloc));
-    for found in &read {
-        let mut octets = Vec::from_slice(alloc, found.owner.as_bytes())?;
-        octets.extend_from_slice(&found.body.record_type.code().to_be_bytes())?;
-        octets.extend_from_slice(&found.body.class.code().to_be_bytes())?;
-        octets.extend_from_slice(&found.body.ttl.to_be_bytes())?;
-        octets.extend_from_slice(&[0, found.body.wire.len() as u8])?;
-        octets.extend_from_slice(found.body.wire.as_slice())?;
-        let record = RecordRef::from_bytes(alloc, octets.as_slice())?;
-        if again.len() == 31 {
-            append_origin(alloc, &mut state, &origin, &mut again)?;
-            append_ttl(alloc, &mut state, 60, &mut again)?;
-        }
-        append_short_record(alloc, &mut state, &record, &mut again)?;
+    for line in &LINES[1..] {
+        put_short(alloc, &mut context, line, &mut text)?;
     }
-    assert_eq!(rt; again.as_slice(), wanted.as_slice());
+    assert_eq!(rt; text.as_slice(), SHORT);
+    let read = read_records(alloc, Name::from_ascii(alloc, "other.")?, text.as_slice())?;
+    assert_eq!(rt; read.len(), LINES.len());
+    let mut again = Vec::new(alloc);
+    let mut context = Context::new(Name::root(alloc));
+    for (place, found) in read.iter().enumerate() {
+        if place == 1 {
+            append_origin(alloc, &mut context, &origin, &mut again)?;
+            append_ttl(alloc, &mut context, 60, &mut again)?;
+        }
+        let octets = octets_of(alloc, found)?;
+        let record = RecordRef::from_bytes(alloc, octets.as_slice())?;
+        append_short_record(alloc, &mut context, &record, &mut again)?;
+    }
+    assert_eq!(rt; again.as_slice(), SHORT);
     Ok(())
 }
