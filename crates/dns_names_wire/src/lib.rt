@@ -261,9 +261,11 @@ pub mod serial_number {
     pub use dnw_base::serial_number::SerialNumber;
 }
 
-/// Sort keys of names, which compare as bytes as the names do in canonical order, and what follows from their definition.
+/// Sort keys of names, which compare as bytes as the names do in canonical order, and what follows from their definition; and
+/// lists of names, sorted by them.
 pub mod sort_key {
     pub use dnw_name_order::sort_key::{MAX_SORT_KEY_LENGTH, laws};
+    pub use dnw_name_order::sorting::CanonicalOrder;
 }
 
 /// Where a text that gives no name by `Name::from_ascii` goes wrong. `Name::from_text` returns its own error, of [`name_text`].

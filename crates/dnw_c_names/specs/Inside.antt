@@ -1,3 +1,2 @@
--- What no public clause cites: names with their sort keys, and wire forms with the lengths of their last labels.
-pub mod Keyed
+-- What no public clause cites: wire forms with the lengths of their last labels.
 pub mod LastLengths

@@ -1,13 +1,9 @@
 -- Names of a list in canonical order (RFC 4034, section 6.1).
-use Rattle.std.specs.Prelude.{◌≡◌, ◌<◌, ◌≤◌, ◌⊎◌, ℕ, List, [], ◌∷◌, length, slice_index_or, Result, MatchResult}
-use Rattle.std.specs.List.{range_with_len}
-use Rattle.std.specs.List.Sorted.{IsPermutation, IsStrictlySortedBy}
-use Rattle.std.specs.Ordering.{on, then_cmp, nat_cmp}
-use Rattle.std.specs.declared.cmp.Ordering.{Ordering}
+use Rattle.std.specs.Prelude.{◌≡◌, ◌<◌, ◌≤◌, ◌⊎◌, ℕ, List, [], ◌∷◌, length, Result, MatchResult}
 use Rattle.dnw_base.specs.Decoder.{Decoder}
 use Rattle.dnw_base.specs.Limits.{max_pointers}
 use Rattle.dnw_name_read.specs.Buffers.{put}
-use Rattle.dnw_name_order.specs.Order.{labels_cmp}
+use Rattle.dnw_name_order.specs.Sorted.{AreInOrder}
 use Rattle.dnw_c_base.specs.Results.{Refuses}
 use Rattle.dnw_c_base.specs.declared.failure.Failure.{Failure}
 use Rattle.dnw_c_base.specs.declared.failure.Failure.TheVariants.{NoMemory, NoRoom}
@@ -24,15 +20,6 @@ pub data StopsNaming : Decoder → ℕ → Failure → Type 0 where
   here : (d : Decoder) (most : ℕ) (failure : Failure) → d.index < length d.bytes → IsNoNextName d most failure → StopsNaming d most failure
   later : (d next : Decoder) (most left : ℕ) (labels : List (List ℕ)) (failure : Failure)
       → TakesNextName d most labels next left → StopsNaming next left failure → StopsNaming d most failure
-
--- two numbers of names, by the names and then as numbers
-abbrev pub numbers_cmp : List (List (List ℕ)) → ℕ → ℕ → Ordering
-numbers_cmp names = then_cmp (on (λ number. slice_index_or names number []) labels_cmp) nat_cmp
-
--- The numbers of these names, from 0, each once: in the order of the names, and those of equal names ascend.
-pub record AreInOrder (names : List (List (List ℕ))) (numbers : List ℕ) : Type 0 where
-  pub each_once : IsPermutation (range_with_len 0 (length names)) numbers
-  pub ascend : IsStrictlySortedBy (numbers_cmp names) numbers
 
 -- The names of a list, which may follow 65,536 pointers, are not read: one fails, or memory ran out, which an empty list does not
 -- need.

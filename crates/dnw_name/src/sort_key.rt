@@ -1,11 +1,14 @@
 //! Sort keys of names, owned and in messages.
-ghost use Rattle.std.specs.Prelude.{◌≡◌, ◌≤◌, length};
+ghost use Rattle.std.specs.Prelude.{◌≡◌, ◌≤◌, length, map, IfOk};
 ghost use Rattle.dnw_name_order.specs.SortKeys.{max_sort_key, sort_key};
+ghost use Rattle.dnw_name_order.specs.Sorted.{AreInOrder};
 
 use crate::name::Name;
 use crate::name_ref::NameRef;
 use dnw_base::limits::MAX_NAME;
 use dnw_name_order::sort_key::{self, MAX_SORT_KEY_LENGTH};
+use dnw_name_order::sorting::{CanonicalOrder, SortKeys};
+use std::alloc::{AllocError, Global};
 
 impl Name {
     /// Puts the sort key of the name at the front of a buffer, and returns it. Keys compare as bytes as the names do in
@@ -24,6 +27,20 @@ impl Name {
     {
         sort_key::of_labels(self.wire_labels(), buffer)
     }
+
+    /// Returns the numbers of names, from 0, in canonical order of the names (RFC 4034, section 6.1). Those of equal names
+    /// ascend. Whether names are fully qualified is ignored.
+    ///
+    /// The sort key of each name is made once. So many names take less time than by `sort`, and room for their keys.
+    pub fn canonical_order(alloc: Global, names: &[Name]) -> Result<CanonicalOrder, AllocError>
+        ensures { IfOk result (AreInOrder (map (λ name. name.labels) names.now)) }
+    {
+        let mut keys = SortKeys::new(alloc);
+        for name in names {
+            keys.push(name.wire_labels())?;
+        }
+        Ok(keys.sorted())
+    }
 }
 
 impl<'a> NameRef<'a> {
@@ -35,5 +52,20 @@ impl<'a> NameRef<'a> {
     {
         let mut room = [0; MAX_NAME];
         sort_key::of_labels(self.wire_labels(&mut room), buffer)
+    }
+
+    /// Returns the numbers of names, from 0, in canonical order of the names, as `Name::canonical_order`.
+    pub fn canonical_order(
+        alloc: Global,
+        names: &[NameRef<'_>],
+    ) -> Result<CanonicalOrder, AllocError>
+        ensures { IfOk result (AreInOrder names.now) }
+    {
+        let mut keys = SortKeys::new(alloc);
+        let mut room = [0; MAX_NAME];
+        for name in names {
+            keys.push(name.wire_labels(&mut room))?;
+        }
+        Ok(keys.sorted())
     }
 }

@@ -1,3 +1,4 @@
 pub mod Comparing
 pub mod Lengths
 pub mod SortKeys
+pub mod Numbers

@@ -3,3 +3,4 @@ pub mod OrderLaws
 pub mod Inside
 pub mod SortKeys
 pub mod SortKeyLaws
+pub mod Sorted

@@ -6,3 +6,4 @@
 pub mod from_last;
 pub mod order;
 pub mod sort_key;
+pub mod sorting;

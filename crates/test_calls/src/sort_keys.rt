@@ -133,3 +133,58 @@ fn names_are_denied_in_the_order_of_their_keys(rt: HostRuntime) -> Result<(), Fa
     assert!(rt; !uses::denial::denies(b"example\x00z\x00", b"example\x00", &denied));
     Ok(())
 }
+
+#[test]
+fn names_are_sorted_by_their_keys(rt: HostRuntime) -> Result<(), Fail> {
+    let alloc = rt.alloc();
+    // From the last one to the first, and the fifth once more, in lower case.
+    let mut names = Vec::new(alloc);
+    for wire in IN_ORDER.iter().rev() {
+        names.push(name_of(alloc, wire)?)?;
+    }
+    names.push(name_of(alloc, b"\x04zabc\x01a\x07example\x00")?)?;
+    let order = Name::canonical_order(alloc, names.as_slice())?;
+    let expected = [8, 7, 6, 5, 4, 9, 3, 2, 1, 0];
+    assert_eq!(rt; order.len(), expected.len());
+    for (place, number) in expected.iter().enumerate() {
+        assert_eq!(rt; order.get(place), Some(*number));
+    }
+    assert_eq!(rt; order.get(expected.len()), None);
+    assert_eq!(rt; Name::canonical_order(alloc, &[])?.len(), 0);
+    Ok(())
+}
+
+/// Names of two octets, the last of which is the first in order: with ample memory, at sizes that a body could take for a limit.
+#[test]
+fn many_borrowed_names_are_sorted(rt: HostRuntime) -> Result<(), Fail> {
+    let alloc = rt.alloc();
+    for count in [
+        1,
+        2,
+        127,
+        128,
+        255,
+        256,
+        511,
+        512,
+        1_024,
+        4_097,
+        65_536usize,
+    ] {
+        let mut list = Vec::new(alloc);
+        for number in 0..count {
+            let [high, low] = ((65_535usize.saturating_sub(number)) as u16).to_be_bytes();
+            list.extend_from_slice(&[2, high, low, 0])?;
+        }
+        let mut decoder = BinDecoder::new(list.as_slice());
+        let mut names = Vec::new(alloc);
+        for _ in 0..count {
+            names.push(NameRef::read(&mut decoder).map_err(|_| "a name")?)?;
+        }
+        let order = NameRef::canonical_order(alloc, names.as_slice())?;
+        assert_eq!(rt; order.len(), count);
+        assert_eq!(rt; order.get(0), Some(count.saturating_sub(1)));
+        assert_eq!(rt; order.get(count.saturating_sub(1)), Some(0));
+    }
+    Ok(())
+}
