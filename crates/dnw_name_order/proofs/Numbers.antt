@@ -18,17 +18,13 @@ use Rattle.dnw_name_order.specs.Order.{canonical, labels_cmp}
 use Rattle.dnw_name_order.specs.SortKeys.{sort_key}
 use Rattle.dnw_name_order.proofs.SortKeys.{keys_compare}
 use Rattle.dnw_name_order.specs.Sorted.{AreInOrder, numbers_cmp}
-use Rattle.dnw_name_order.specs.Inside.Keyed.{AreNumbered, key_of, number_of}
+use Rattle.dnw_name_order.specs.Inside.Keyed.{AreNumbered, AreSorted, entry_cmp, key_of, number_of}
 
 abbrev Names : Type 0
 Names = List (List (List ℕ))
 
 abbrev Entry : Type 0
 Entry = Vec ℕ × ℕ
-
--- entries by their keys, and then by their numbers
-abbrev entry_cmp : Entry → Entry → Ordering
-entry_cmp x y = ordering_then (slice_cmp nat_cmp (key_of x) (key_of y)) (nat_cmp (number_of x) (number_of y))
 
 -- the entry has the key of the name with its number
 abbrev HasKey : Names → Entry → Type 0
@@ -122,18 +118,19 @@ step names (d ∷ sorted) has up distinct k within =
     rw (first, second) (below names (number_of x) (number_of y) (numbers_cmp names (number_of x) (number_of y)) refl not other)
 
 -- sorted entries have the numbers in the order of the names
-pub in_order : (names : Names) (entries sorted : List Entry) → AreKeyed names entries → IsPermutation entries sorted → IsSorted entry_cmp sorted
-    → AreInOrder names (map number_of sorted)
-in_order names entries sorted keyed moved up =
+pub in_order : (names : Names) (entries sorted : List Entry) → AreNumbered entries → AreSorted entries sorted
+    → map key_of entries ≡ map sort_key names → AreInOrder names (map number_of sorted)
+in_order names entries sorted numbered are keys =
+    let keyed : AreKeyed names entries = (keys, numbered) in
     let once : IsPermutation (range_with_len 0 (length names)) (map number_of sorted) =
     subst (λ ns. IsPermutation ns (map number_of sorted)) (keyed.1 ∙ ap (range_with_len 0) (as_many names entries keyed))
-    (IsPermutation-map number_of entries sorted moved) in
+    (IsPermutation-map number_of entries sorted are.moved) in
     let distinct : IsDistinct nat_eq (map number_of sorted) =
     IsDistinct-IsPermutation nat_eq nat_eq_equiv.symm (range_with_len 0 (length names)) (map number_of sorted) once (apart (length names)) in
-    let has = All-permutation (HasKey names) entries sorted moved (has_keys names entries keyed) in
+    let has = All-permutation (HasKey names) entries sorted are.moved (has_keys names entries keyed) in
     record {
       each_once = once;
-      ascend = sorted_from_all_adjacent (numbers_total names) (map number_of sorted) 0 (step names sorted has up distinct);
+      ascend = sorted_from_all_adjacent (numbers_total names) (map number_of sorted) 0 (step names sorted has are.ascend distinct);
     }
 
 -- ---- one more entry

@@ -2,6 +2,7 @@
 ghost use Rattle.std.specs.Prelude.{◌≡◌, [], ◌∷◌, ◌++◌, ℕ, List, length, map, slice_get, OnOk, OnErr};
 ghost use Rattle.dnw_name_order.specs.SortKeys.{sort_key};
 ghost use Rattle.dnw_name_order.specs.Sorted.{AreInOrder};
+ghost use Rattle.dnw_name_order.specs.Inside.Keyed.{AreSorted};
 
 use crate::sort_key::{self, MAX_SORT_KEY_LENGTH};
 use dnw_name_form::wire_labels::WireLabels;
@@ -63,13 +64,25 @@ impl SortKeys {
     }
 
     /// Returns the numbers of the names in canonical order of the names. Those of equal names ascend.
+    #[tactic(auto, using(crate::proofs::Numbers::in_order))]
     pub fn sorted(self) -> CanonicalOrder
-        ensures { (names : List (List (List ℕ))) → self ≡ map sort_key names → AreInOrder names result }
+        ensures in_order { (names : List (List (List ℕ))) → self ≡ map sort_key names → AreInOrder names result }
+        ensures len { length result ≡ length self }
     {
-        let SortKeys { mut entries } = self;
-        entries.sort_unstable();
-        CanonicalOrder { entries }
+        let SortKeys { entries } = self;
+        CanonicalOrder {
+            entries: by_keys(entries),
+        }
     }
+}
+
+/// Sorts entries by their keys, and those of equal keys by their numbers.
+fn by_keys(mut entries: Vec<(Vec<u8>, usize)>) -> Vec<(Vec<u8>, usize)>
+    ensures sorted { AreSorted entries.items result.items }
+    ensures len { length result.items ≡ length entries.items }
+{
+    entries.sort_unstable();
+    entries
 }
 
 /// The numbers of names, from 0, in canonical order of the names.
