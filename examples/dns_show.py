@@ -12,6 +12,7 @@ import pathlib
 import re
 import signal
 import sys
+from typing import Callable, Dict, List, Sequence
 
 from dns_names_wire import DnsError, Name, TypeSet, class_text, read_name, read_record, type_text
 
@@ -33,19 +34,19 @@ class Rejected(Exception):
 class Cursor:
     """A cursor over a part of a message, up to `end`."""
 
-    def __init__(self, message, at, end):
+    def __init__(self, message: bytes, at: int, end: int) -> None:
         self.message, self.at, self.end = message, at, end
 
-    def take(self, length):
+    def take(self, length: int) -> bytes:
         if self.end - self.at < length:
             raise Rejected(self.at, "the message or the record ends too early")
         self.at += length
         return self.message[self.at - length : self.at]
 
-    def number(self, octets):
+    def number(self, octets: int) -> int:
         return int.from_bytes(self.take(octets), "big")
 
-    def name(self):
+    def name(self) -> Name:
         try:
             name, end = read_name(self.message, self.at)
         except DnsError as error:
@@ -55,12 +56,12 @@ class Cursor:
         self.at = end
         return name
 
-    def rest(self):
+    def rest(self) -> bytes:
         return self.take(self.end - self.at)
 
 
-def string_text(octets):
-    def shown(octet):
+def string_text(octets: bytes) -> str:
+    def shown(octet: int) -> str:
         if not 32 <= octet <= 126:
             return f"\\{octet:03}"
         return ("\\" if octet in b'"\\' else "") + chr(octet)
@@ -68,19 +69,19 @@ def string_text(octets):
     return '"' + "".join(map(shown, octets)) + '"'
 
 
-def strings_text(data):
+def strings_text(data: Cursor) -> str:
     texts = [string_text(data.take(data.number(1)))]
     while data.at < data.end:
         texts.append(string_text(data.take(data.number(1))))
     return " ".join(texts)
 
 
-def tagged_text(data):
+def tagged_text(data: Cursor) -> str:
     tag = data.take(data.number(1)).decode("latin-1")
     return f"{tag} {string_text(data.rest())}"
 
 
-def types_text(data):
+def types_text(data: Cursor) -> str:
     at = data.at
     try:
         return " ".join(type_text(code) for code in TypeSet.from_bitmap(data.rest()))
@@ -88,7 +89,7 @@ def types_text(data):
         raise Rejected(at, error.reason) from error
 
 
-FIELDS = {
+FIELDS: Dict[str, Callable[[Cursor], str]] = {
     "n": lambda data: str(data.name()),
     "1": lambda data: str(data.number(1)),
     "2": lambda data: str(data.number(2)),
@@ -102,7 +103,7 @@ FIELDS = {
 }
 
 
-def data_text(data, kind):
+def data_text(data: Cursor, kind: str) -> str:
     """Returns the text of a record's data: by its type, or as in RFC 3597."""
     fields = FIELDS_OF.get(kind)
     if fields is None:
@@ -114,7 +115,7 @@ def data_text(data, kind):
     return text
 
 
-def record_text(cursor):
+def record_text(cursor: Cursor) -> str:
     try:
         record = read_record(cursor.message, cursor.at)
     except DnsError as error:
@@ -127,12 +128,12 @@ def record_text(cursor):
     return f"{record.owner}\t{ttl}\t{class_text(klass)}\t{kind}\t{data}"
 
 
-def question_text(cursor):
+def question_text(cursor: Cursor) -> str:
     name, kind, klass = cursor.name(), cursor.number(2), cursor.number(2)
     return f";{name}\t{class_text(klass)}\t{type_text(kind)}"
 
 
-def header_text(ident, word, counts):
+def header_text(ident: int, word: int, counts: Sequence[int]) -> str:
     opcode, status = word >> 11 & 15, word & 15
     status_text = STATUSES[status] if status < len(STATUSES) else f"RCODE{status}"
     flags = "".join(f" {text}" for mask, text in FLAGS.items() if word & mask)
@@ -142,7 +143,7 @@ def header_text(ident, word, counts):
     )
 
 
-def show_message(message):
+def show_message(message: bytes) -> None:
     cursor = Cursor(message, 0, len(message))
     ident, word = cursor.number(2), cursor.number(2)
     counts = [cursor.number(2) for _ in range(4)]
@@ -156,8 +157,9 @@ def show_message(message):
         raise Rejected(cursor.at, "octets are left after the message")
 
 
-def show_sorted(text):
-    names, at = [], 0
+def show_sorted(text: bytes) -> None:
+    names: List[Name] = []
+    at = 0
     for line in text.splitlines(keepends=True):
         try:
             # a name from its wire form is fully qualified
@@ -171,7 +173,7 @@ def show_sorted(text):
         print(name)
 
 
-def message_of(octets):
+def message_of(octets: bytes) -> bytes:
     """Returns the octets; or, if they are hexadecimal digits and white space, the octets that they encode."""
     if not re.fullmatch(rb"[0-9A-Fa-f\s]*", octets):
         return octets
@@ -181,7 +183,7 @@ def message_of(octets):
     return bytes.fromhex(digits.decode())
 
 
-def main(words):
+def main(words: Sequence[str]) -> int:
     sorts = words[:1] == ["--sort"]
     files = words[1:] if sorts else words
     if len(files) > 1 or (files and files[0].startswith("-")):

@@ -6,7 +6,7 @@ import sys
 from dns_names_wire import DnsError, Message
 
 
-def main(file="/dev/stdin"):
+def main(file: str = "/dev/stdin") -> None:
     with open(file, "rb") as octets:
         message = Message.from_wire(octets.read())
     print(message)

@@ -10,7 +10,7 @@ import sys
 from dns_names_wire import DnsError, Name
 
 
-def main(file):
+def main(file: str) -> None:
     with open(file, encoding="ascii") as lines:
         names = sorted({Name(line.rstrip("\n")) for line in lines}, key=Name.sort_key)
     for name, following in zip(names, names[1:] + names[:1]):

@@ -3,6 +3,7 @@
 
 import socket
 import sys
+from typing import Tuple
 
 from dns_names_wire import DnsError, Message, make_query
 
@@ -12,7 +13,7 @@ TRIES = 3
 SECONDS = 2
 
 
-def over_udp(server, query):
+def over_udp(server: Tuple[str, int], query: Message) -> Message:
     """Returns the first message that is a reply to the query. Others are ignored: they are late, or not from the server."""
     family = socket.AF_INET6 if ":" in server[0] else socket.AF_INET
     with socket.socket(family, socket.SOCK_DGRAM) as channel:
@@ -34,7 +35,7 @@ def over_udp(server, query):
     raise OSError("there is no reply")
 
 
-def over_tcp(server, query):
+def over_tcp(server: Tuple[str, int], query: Message) -> Message:
     """Each message has two octets of its length before it (RFC 1035, section 4.2.2)."""
     with socket.create_connection(server, SECONDS) as channel, channel.makefile("rwb") as stream:
         octets = query.to_wire()
@@ -46,7 +47,7 @@ def over_tcp(server, query):
     return reply
 
 
-def main(address, port, name, record_type):
+def main(address: str, port: str, name: str, record_type: str) -> None:
     server, query = (address, int(port)), make_query(name, record_type, payload=PAYLOAD)
     reply = over_udp(server, query)
     if reply.header.truncation:

@@ -9,6 +9,7 @@ is used. The port is printed. A response that is longer than the requester accep
 import socketserver
 import sys
 import threading
+from typing import List, Optional
 
 from dns_names_wire import DnsError, Message, OpCode, Record, RecordClass, RecordType, ResponseCode
 
@@ -16,7 +17,7 @@ from dns_names_wire import DnsError, Message, OpCode, Record, RecordClass, Recor
 PAYLOAD = 1232
 
 
-def reply_to(table, request):
+def reply_to(table: List[Record], request: Message) -> Message:
     if request.header.op_code != OpCode.QUERY:
         return request.reply(response_code=ResponseCode.NOTIMP)
     if len(request.questions) != 1:
@@ -35,7 +36,7 @@ def reply_to(table, request):
     return request.reply(authorities=table[:1], authoritative=True, response_code=code)
 
 
-def respond(table, octets, most):
+def respond(table: List[Record], octets: bytes, most: Optional[int]) -> bytes:
     """Returns the octets of the response to a request, or no octets if it is not a request."""
     try:
         request = Message.from_wire(octets)
@@ -53,23 +54,26 @@ def respond(table, octets, most):
 
 
 class Udp(socketserver.DatagramRequestHandler):
-    def handle(self):
-        self.wfile.write(respond(self.server.table, self.rfile.read(), None))
+    table: List[Record] = []
+
+    def handle(self) -> None:
+        self.wfile.write(respond(self.table, self.rfile.read(), None))
 
 
 class Tcp(socketserver.StreamRequestHandler):
-    def handle(self):
+    table: List[Record] = []
+
+    def handle(self) -> None:
         while length := self.rfile.read(2):
-            octets = respond(self.server.table, self.rfile.read(int.from_bytes(length, "big")), 65535)
+            octets = respond(self.table, self.rfile.read(int.from_bytes(length, "big")), 65535)
             self.wfile.write(len(octets).to_bytes(2, "big") + octets)
 
 
-def main(port, file):
+def main(port: str, file: str) -> None:
     with open(file, encoding="utf-8") as lines:
-        table = [Record.from_text(line.rstrip("\n")) for line in lines]
+        Udp.table = Tcp.table = [Record.from_text(line.rstrip("\n")) for line in lines]
     udp = socketserver.UDPServer(("127.0.0.1", int(port)), Udp)
     tcp = socketserver.ThreadingTCPServer(udp.server_address, Tcp)
-    udp.table = tcp.table = table
     threading.Thread(target=tcp.serve_forever, daemon=True).start()
     print("serving on port", udp.server_address[1], flush=True)
     udp.serve_forever()

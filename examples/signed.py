@@ -8,17 +8,18 @@ verifies the signature over these octets with the key (RFC 4035, section 5.3).
 
 import sys
 
-from dns_names_wire import DnsError, Message, RecordType
+from dns_names_wire import RRSIG, DnsError, Message
 
 
-def main(file="/dev/stdin"):
+def main(file: str = "/dev/stdin") -> None:
     with open(file, "rb") as octets:
         message = Message.from_wire(octets.read())
     for section in message.answers, message.authorities, message.additionals:
         for record in section:
-            if record.record_type == RecordType.RRSIG:
+            data = record.data
+            if isinstance(data, RRSIG):
                 signed = record.signed_octets(section)
-                print(record.owner, record.data.type_covered, record.data.key_tag, signed.hex())
+                print(record.owner, data.type_covered, data.key_tag, signed.hex())
 
 
 if __name__ == "__main__":
