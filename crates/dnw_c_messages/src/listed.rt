@@ -71,6 +71,7 @@ pub(crate) fn octet_at(decoder: &BinDecoder<'_>) -> u8
 }
 
 /// Reads a question.
+#[inline(always)]
 pub(crate) fn read_question<'l>(decoder: &mut BinDecoder<'l>) -> Result<Question<'l>, Failure>
     requires { BeginsWithOctet decoder.old question_octet }
     ensures ok { IfOk result (λ q. TakesQuestion decoder.old q.name q.query_type q.class decoder.new) }
@@ -94,6 +95,7 @@ pub(crate) fn read_question<'l>(decoder: &mut BinDecoder<'l>) -> Result<Question
 }
 
 /// Reads a record after its octet.
+#[inline(always)]
 pub(crate) fn read_record<'l>(decoder: &mut BinDecoder<'l>) -> Result<RecordRef<'l>, Failure>
     requires { decoder.old.index < length decoder.old.bytes }
     ensures ok { IfOk result (λ x. TakesRecord (advanced decoder.old 1) x decoder.new) }

@@ -227,6 +227,7 @@ fn add_last(
 }
 
 /// Returns the owner and the pieces of the data of a record.
+#[inline(always)]
 fn given<'g>(
     form: &'g [u8],
     record_type: u16,

@@ -92,7 +92,7 @@ module _ (slot : List (List ℕ) → ℕ) where
       → (k : ℕ) × NameAt later (length b) ls (length b + length octets) k × (k ≤ length ls + 2)
   near_read b near [] octets later more are long usable is keeps at = absurd (omega (arith, long))
   near_read b near (l ∷ ls) octets later more are long usable is keeps at =
-      written_names_are_read (λ x. 0) b (length b) (near ∷ []) (l ∷ ls) octets (near ∷ []) later more are (inl (usable, is, refl)) keeps at
+      written_names_are_read (λ x. 0) b (length b) (near ∷ []) (l ∷ ls) octets (near ∷ []) later more are (inl (near, (usable, inl refl), is, refl)) keeps at
 
   pub owner_read : (b : List ℕ) (near : ℕ) (hints : List ℕ) (ls : List (List ℕ)) (octets after later more : List ℕ) → AreLabels ls
       → IsOwner slot b near hints ls octets after → KeepsSettled (length b) b later → drop (length b) later ≡ octets ++ more

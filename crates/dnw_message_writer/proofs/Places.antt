@@ -159,8 +159,7 @@ module _ (slot : List (List ℕ) → ℕ) (b later : List ℕ) (gap : ℕ) (keep
   written_later at hints [] octets after more all h here =
       let r : Reads later at (length b) None [] (at + 1) 0 = zero_octet tt (octet_at later at 0 more (here ∙ ap (λ x. x ++ more) h.0)) in
       (0, subst (λ e. Reads later at (length b) None [] e 0) (ap (λ (x : List ℕ). at + length x) (sym h.0)) r, omega arith)
-  written_later at hints (l ∷ ls) octets after more all (inl (usable, is, same)) here =
-      let hint = slice_index hints (slot (l ∷ ls)) in
+  written_later at hints (l ∷ ls) octets after more all (inl (hint, (usable, which), is, same)) here =
       let high = 192 + hint / 256 in
       let low = hint % 256 in
       let start : Spot = record { position = hint; segment = hint; limit = length b } in
@@ -181,7 +180,7 @@ module _ (slot : List (List ℕ) → ℕ) (b later : List ℕ) (gap : ℕ) (keep
       let octets_at : drop at later ≡ label_wire l ++ (rest ++ more) = here ∙ (ap (λ x. x ++ more) is ∙ append_assoc (label_wire l) rest more) in
       let behind : drop (at + 1 + length l) later ≡ rest ++ more =
       after_at later at (at + 1 + length l) (label_wire l) (rest ++ more) octets_at (omega arith) in
-      let (k, r, few) = written_later (at + 1 + length l) (kept_hints hints (slot (l ∷ ls)) (length b) at) ls rest after more all.1 others behind in
+      let (k, r, few) = written_later (at + 1 + length l) (kept_hints hints (slot (l ∷ ls)) at) ls rest after more all.1 others behind in
       let end : at + 1 + length l + length rest ≡ at + length octets = omega (arith, ap length is, length-append (label_wire l) rest) in (
         k,
         subst (λ e. Reads later at (length b) None (l ∷ ls) e k) end
@@ -197,7 +196,7 @@ written_names_are_read slot b gap hints ls octets after later more are h keeps h
 no_more : (slot : List (List ℕ) → ℕ) (b : List ℕ) (gap at : ℕ) (hints : List ℕ) (ls : List (List ℕ)) (octets after : List ℕ)
     → AllByRecursion IsLabel ls → Compresses slot b gap at hints ls octets after → length octets ≤ encoded_size ls
 no_more slot b gap at hints [] octets after all h = omega (arith, ap length h.0)
-no_more slot b gap at hints (l ∷ ls) octets after all (inl (usable, is, same)) =
+no_more slot b gap at hints (l ∷ ls) octets after all (inl (hint, finds, is, same)) =
     omega (arith, ap length is, all.0.not_empty, encoded_size_cons l ls)
 no_more slot b gap at hints (l ∷ ls) octets after all (inr (not, rest, is, others)) =
     omega (
@@ -205,7 +204,7 @@ no_more slot b gap at hints (l ∷ ls) octets after all (inr (not, rest, is, oth
       ap length is,
       length-append (label_wire l) rest,
       encoded_size_cons l ls,
-      no_more slot b gap (at + 1 + length l) (kept_hints hints (slot (l ∷ ls)) (length b) at) ls rest after all.1 others,
+      no_more slot b gap (at + 1 + length l) (kept_hints hints (slot (l ∷ ls)) at) ls rest after all.1 others,
     )
 
 pub names_take_no_more : CompressedNamesTakeNoMore

@@ -114,36 +114,47 @@ module _ (b later : List ℕ) (gap : ℕ) (keeps : KeepsSettled gap b later) whe
 -- ---- hints
 
 -- a hint that is kept is one that there was, or the new one
-kept_index : (hints : List ℕ) (at_slot so_far offset i : ℕ)
-    → (get_or (kept_hints hints at_slot so_far offset) i 0 ≡ get_or hints i 0) ⊎ (get_or (kept_hints hints at_slot so_far offset) i 0 ≡ offset)
-kept_index hints at_slot so_far offset i = chosen (nat_lt offset 16384 && nat_lt (slice_index hints at_slot) so_far)
+kept_index : (hints : List ℕ) (at_slot offset i : ℕ)
+    → ((j : ℕ) × (get_or (kept_hints hints at_slot offset) i 0 ≡ get_or hints j 0)) ⊎ (get_or (kept_hints hints at_slot offset) i 0 ≡ offset)
+kept_index hints at_slot offset i = chosen (nat_lt offset 16384)
   where
-    index_set : (get_or (slice_set hints at_slot offset) i 0 ≡ get_or hints i 0) ⊎ (get_or (slice_set hints at_slot offset) i 0 ≡ offset)
-    index_set =
-        elim (cases_order i at_slot) [
+    index_set : (xs : List ℕ) (k value : ℕ) → (get_or (slice_set xs k value) i 0 ≡ get_or xs i 0) ⊎ (get_or (slice_set xs k value) i 0 ≡ value)
+    index_set xs k value =
+        elim (cases_order i k) [
           | inl same ↦
-              elim (le_or_lt (length hints) at_slot) [
-                | inl outside ↦ inl (ap (λ x. get_or x i 0) (set_past hints at_slot offset outside))
-                | inr inside ↦ inr (ap (λ k. get_or (slice_set hints at_slot offset) k 0) same ∙ get_or-set_same hints at_slot offset 0 inside)
+              elim (le_or_lt (length xs) k) [
+                | inl outside ↦ inl (ap (λ x. get_or x i 0) (set_past xs k value outside))
+                | inr inside ↦ inr (ap (λ n. get_or (slice_set xs k value) n 0) same ∙ get_or-set_same xs k value 0 inside)
               ]
-          | inr other ↦ inl (get_or-set_other hints at_slot i offset 0 (λ same. elim other [ inl less ↦ omega (arith, less, same) | inr more ↦ omega (arith, more, same) ]))
+          | inr other ↦ inl (get_or-set_other xs k i value 0 (λ same. elim other [ inl less ↦ omega (arith, less, same) | inr more ↦ omega (arith, more, same) ]))
         ]
 
-    chosen : (c : Bool) → (get_or (if c then slice_set hints at_slot offset else hints) i 0 ≡ get_or hints i 0)
-        ⊎ (get_or (if c then slice_set hints at_slot offset else hints) i 0 ≡ offset)
-    chosen true = index_set
-    chosen false = inl refl
+    moved : List ℕ
+    moved = slice_set hints (at_slot + 256) (get_or hints at_slot 0)
+
+    chosen : (c : Bool) → ((j : ℕ) × (get_or (if c then slice_set moved at_slot offset else hints) i 0 ≡ get_or hints j 0))
+        ⊎ (get_or (if c then slice_set moved at_slot offset else hints) i 0 ≡ offset)
+    chosen true =
+        elim (index_set moved at_slot offset) [
+          | inl kept ↦
+              elim (index_set hints (at_slot + 256) (get_or hints at_slot 0)) [
+                | inl old ↦ inl (i, kept ∙ old)
+                | inr later ↦ inl (at_slot, kept ∙ later)
+              ]
+          | inr new ↦ inr new
+        ]
+    chosen false = inl (i, refl)
 
 -- No hint is the offset of a pointer of this message.
 abbrev NoPointers : List ℕ → List ℕ → Type 0
 NoPointers m hints = (i : ℕ) → 12 ≤ get_or hints i 0 → (get_or hints i 0 < length m) × (get_or m (get_or hints i 0) 0 < 192)
 
-kept_no_pointers : (m hints : List ℕ) (at_slot so_far offset : ℕ) → offset < length m → get_or m offset 0 < 192 → NoPointers m hints
-    → NoPointers m (kept_hints hints at_slot so_far offset)
-kept_no_pointers m hints at_slot so_far offset inside label all i after =
-    elim (kept_index hints at_slot so_far offset i) [
-      | inl old ↦
-          let own = all i (omega (arith, old, after)) in
+kept_no_pointers : (m hints : List ℕ) (at_slot offset : ℕ) → offset < length m → get_or m offset 0 < 192 → NoPointers m hints
+    → NoPointers m (kept_hints hints at_slot offset)
+kept_no_pointers m hints at_slot offset inside label all i after =
+    elim (kept_index hints at_slot offset i) [
+      | inl (j, old) ↦
+          let own = all j (omega (arith, old, after)) in
           (omega (arith, own.0, old), subst (λ k. get_or m k 0 < 192) (sym old) own.1)
       | inr new ↦ (omega (arith, new, inside), subst (λ k. get_or m k 0 < 192) (sym new) label)
     ]
@@ -153,14 +164,14 @@ module _ (slot : List (List ℕ) → ℕ) (m : List ℕ) where
   compress_no_pointers : (b : List ℕ) (gap at : ℕ) (hints : List ℕ) (ls : List (List ℕ)) (octets after more : List ℕ) → AllByRecursion IsLabel ls
       → Compresses slot b gap at hints ls octets after → drop at m ≡ octets ++ more → NoPointers m hints → NoPointers m after
   compress_no_pointers b gap at hints [] octets after more all h there free = subst (NoPointers m) (sym h.1) free
-  compress_no_pointers b gap at hints (l ∷ ls) octets after more all (inl (usable, is, same)) there free = subst (NoPointers m) (sym same) free
+  compress_no_pointers b gap at hints (l ∷ ls) octets after more all (inl (hint, finds, is, same)) there free = subst (NoPointers m) (sym same) free
   compress_no_pointers b gap at hints (l ∷ ls) octets after more all (inr (not, rest, is, others)) there free =
       let here : drop at m ≡ label_wire l ++ (rest ++ more) = there ∙ (ap (λ x. x ++ more) is ∙ append_assoc (label_wire l) rest more) in
       let behind : drop (at + 1 + length l) m ≡ rest ++ more = after_at m at (at + 1 + length l) (label_wire l) (rest ++ more) here (omega arith) in
       let short = all.0.not_long in
       let octet : get_or m at 0 ≡ length l = first_octet m at (length l) (l ++ (rest ++ more)) here in
-      compress_no_pointers b gap (at + 1 + length l) (kept_hints hints (slot (l ∷ ls)) (length b) at) ls rest after more all.1 others behind
-      (kept_no_pointers m hints (slot (l ∷ ls)) (length b) at (is_inside m at (length l) (l ++ (rest ++ more)) here) (omega (arith, octet, short)) free)
+      compress_no_pointers b gap (at + 1 + length l) (kept_hints hints (slot (l ∷ ls)) at) ls rest after more all.1 others behind
+      (kept_no_pointers m hints (slot (l ∷ ls)) at (is_inside m at (length l) (l ++ (rest ++ more)) here) (omega (arith, octet, short)) free)
 
   pub owner_no_pointers : (b : List ℕ) (near : ℕ) (hints : List ℕ) (ls : List (List ℕ)) (octets after more : List ℕ) → AreLabels ls
       → IsOwner slot b near hints ls octets after → drop (length b) m ≡ octets ++ more → NoPointers m hints → NoPointers m after
@@ -200,12 +211,16 @@ module _ (slot : List (List ℕ) → ℕ) (b later : List ℕ) (keeps : KeepsSet
           same = part_at later at (0 ∷ []) more here;
         },
       )
-  compress_stands at hints (l ∷ ls) octets after more n all (inl (usable, is, same)) there past fits good =
+  compress_stands at hints (l ∷ ls) octets after more n all (inl (hint, (usable, which), is, same)) there past fits good =
       let s : Spot = record { position = at; segment = length b; limit = n } in
-      let hint = slice_index hints (slot (l ∷ ls)) in
       let start : Spot = record { position = hint; segment = hint; limit = length b } in
       let after_it = points_after_header b (length b) hint (l ∷ ls) usable in
       let prior : hint < length b = stands_inside b (length b) start (l ∷ ls) usable.1 in
+      let label : get_or b hint 0 < 192 = elim which [
+        | inl later_is ↦ subst (λ k. get_or b k 0 < 192) (sym later_is) (good (slot (l ∷ ls)) (omega (arith, later_is, after_it)) (omega (arith, later_is, prior)))
+        | inr (none, former_is) ↦
+            subst (λ k. get_or b k 0 < 192) (sym former_is) (good (slot (l ∷ ls) + 256) (omega (arith, former_is, after_it)) (omega (arith, former_is, prior)))
+      ] in
       let high = 192 + hint / 256 in
       let low = hint % 256 in
       let here : drop at later ≡ high ∷ (low ∷ more) = there ∙ ap (λ x. x ++ more) is in
@@ -222,7 +237,7 @@ module _ (slot : List (List ℕ) → ℕ) (b later : List ℕ) (keeps : KeepsSet
       } in
       let (t, f, piece, others) = usable.1 in
       let t_is : t ≡ start = elim f [
-        | inl (back, is_back) ↦ absurd (omega (arith, back.marked, good (slot (l ∷ ls)) after_it prior))
+        | inl (back, is_back) ↦ absurd (omega (arith, back.marked, label))
         | inr (none, is_start) ↦ is_start
       ] in
       let piece_there : IsThere b (length b) start (label_wire l) = subst (λ (x : Spot). IsThere b (length b) x (label_wire l)) t_is piece in
@@ -242,15 +257,15 @@ module _ (slot : List (List ℕ) → ℕ) (b later : List ℕ) (keeps : KeepsSet
       let sum = length-append (label_wire l) rest in
       let room : at + (length l + 1) ≤ length later = omega (arith, ap length here, length-drop at later, length-append (label_wire l) (rest ++ more)) in
       let moved : at + 1 + length l ≡ at + (length l + 1) = omega arith in
-      let good_on : (i : ℕ) → 12 ≤ get_or (kept_hints hints (slot (l ∷ ls)) (length b) at) i 0
-      → get_or (kept_hints hints (slot (l ∷ ls)) (length b) at) i 0 < length b
-      → get_or b (get_or (kept_hints hints (slot (l ∷ ls)) (length b) at) i 0) 0 < 192 =
+      let good_on : (i : ℕ) → 12 ≤ get_or (kept_hints hints (slot (l ∷ ls)) at) i 0
+      → get_or (kept_hints hints (slot (l ∷ ls)) at) i 0 < length b
+      → get_or b (get_or (kept_hints hints (slot (l ∷ ls)) at) i 0) 0 < 192 =
       λ i after_it prior.
-      elim (kept_index hints (slot (l ∷ ls)) (length b) at i) [
-        | inl old ↦ subst (λ k. get_or b k 0 < 192) (sym old) (good i (omega (arith, old, after_it)) (omega (arith, old, prior)))
+      elim (kept_index hints (slot (l ∷ ls)) at i) [
+        | inl (j, old) ↦ subst (λ k. get_or b k 0 < 192) (sym old) (good j (omega (arith, old, after_it)) (omega (arith, old, prior)))
         | inr new ↦ absurd (omega (arith, new, prior, past))
       ] in
-      let rest_there = compress_stands (at + 1 + length l) (kept_hints hints (slot (l ∷ ls)) (length b) at) ls rest after more n all.1 others behind
+      let rest_there = compress_stands (at + 1 + length l) (kept_hints hints (slot (l ∷ ls)) at) ls rest after more n all.1 others behind
       (omega (arith, past)) (omega (arith, fits, size, sum)) good_on in (
         s,
         inr (no_pointer_at later (length later) s (length l) (l ++ (rest ++ more)) (omega (arith, short)) here, refl),
@@ -321,9 +336,9 @@ module _ (slot : List (List ℕ) → ℕ) (old later : List ℕ) (at near : ℕ)
       compressed : (ls : List (List ℕ)) → AllByRecursion IsLabel ls → Compresses slot (take at old) (length (take at old)) (length (take at old)) hints ls owner between
           → ls ≢ [] → IsNear later (place_at (put_at old at octets) at) ls
       compressed [] all h some = absurd (some refl)
-      compressed (l ∷ ls) all (inl (usable, is, same)) some =
-          subst (λ p. IsNear later p (l ∷ ls)) (sym (pointer_place (slice_index hints (slot (l ∷ ls))) is))
-          (long_wire (l ∷ ls) some, may_point_on (take at old) later (length (take at old)) keeps (slice_index hints (slot (l ∷ ls))) (l ∷ ls) all usable)
+      compressed (l ∷ ls) all (inl (hint, (usable, which), is, same)) some =
+          subst (λ p. IsNear later p (l ∷ ls)) (sym (pointer_place hint is))
+          (long_wire (l ∷ ls) some, may_point_on (take at old) later (length (take at old)) keeps hint (l ∷ ls) all usable)
       compressed (l ∷ ls) all (inr (none, rest, is, others)) some =
           let short = all.0.not_long in
           let zeroth : at + 0 ≡ at = omega arith in

@@ -1,11 +1,13 @@
 -- How a name is written, with compression (RFC 1035, section 4.1.4), by hints that may be wrong.
 --
--- For each suffix, from the longest on, the hint in its slot is tried: if the suffix stands at that offset of the message so far, a
--- pointer is written for it. Else its first label is written, and its offset becomes the hint. The root is the closing zero.
-use Rattle.std.specs.Prelude.{◌≡◌, ℕ, ◌+◌, ◌/◌, ◌%◌, ◌<◌, ◌&&◌, nat_lt, if◌then◌else◌, ◌⊎◌, Option, Some, None, List, [], ◌∷◌, ◌++◌, length, take, drop, slice_index, slice_set}
+-- For each suffix, from the longest on, the two hints of its slot are tried: if the suffix stands at such an offset of the message so
+-- far, a pointer is written for it. Else its first label is written, and its offset becomes the later hint of the slot. The root is the
+-- closing zero.
+use Rattle.std.specs.Prelude.{◌≡◌, ℕ, ◌+◌, ◌/◌, ◌%◌, ◌<◌, nat_lt, if◌then◌else◌, ◌⊎◌, Option, Some, None, List, [], ◌∷◌, ◌++◌, length, take, drop, slice_index, slice_set}
 use Rattle.dnw_base.specs.Limits.{pointer_bits, pointer_offsets}
 use Rattle.dnw_base.specs.Names.{label_wire, wire}
 use Rattle.dnw_message_writer.specs.declared.names.Spelling.{Spelling}
+use Rattle.dnw_message_writer.specs.Hints.{slots}
 use Rattle.dnw_message_writer.specs.Standing.{StandsSettled}
 
 -- these octets at an offset of a buffer, and the others unchanged
@@ -20,11 +22,28 @@ pointer_octets offset = (pointer_bits + offset / 256) ∷ (offset % 256) ∷ []
 abbrev pub MayPointTo : List ℕ → ℕ → ℕ → List (List ℕ) → Type 0
 MayPointTo b gap hint ls = (hint < pointer_offsets) × StandsSettled b gap hint ls
 
--- An offset that a pointer can hold becomes the hint, unless the slot is that of a longer suffix of the same name, which begins at
--- the end of the message so far.
-abbrev pub kept_hints : List ℕ → ℕ → ℕ → ℕ → List ℕ
-kept_hints hints slot so_far offset =
-    if nat_lt offset pointer_offsets && nat_lt (slice_index hints slot) so_far then slice_set hints slot offset else hints
+-- the hints of a slot: the later one, and the former, which it took the place of
+abbrev pub later_hint : List ℕ → ℕ → ℕ
+later_hint hints slot = slice_index hints slot
+
+abbrev pub former_hint : List ℕ → ℕ → ℕ
+former_hint hints slot = slice_index hints (slot + slots)
+
+-- A hint of the slot is found, to which a pointer may stand for the labels: the later one, or else the former.
+abbrev pub Finds : List ℕ → ℕ → List ℕ → ℕ → List (List ℕ) → ℕ → Type 0
+Finds b gap hints slot ls hint =
+    MayPointTo b gap hint ls
+    × ((hint ≡ later_hint hints slot) ⊎ ((MayPointTo b gap (later_hint hints slot) ls → ⊥) × (hint ≡ former_hint hints slot)))
+
+-- None is.
+abbrev pub FindsNone : List ℕ → ℕ → List ℕ → ℕ → List (List ℕ) → Type 0
+FindsNone b gap hints slot ls =
+    (MayPointTo b gap (later_hint hints slot) ls → ⊥) × (MayPointTo b gap (former_hint hints slot) ls → ⊥)
+
+-- An offset that a pointer can hold becomes the later hint of a slot, and that one the former.
+abbrev pub kept_hints : List ℕ → ℕ → ℕ → List ℕ
+kept_hints hints slot offset =
+    if nat_lt offset pointer_offsets then slice_set (slice_set hints (slot + slots) (later_hint hints slot)) slot offset else hints
 
 -- After the message b a name is written, whose labels have these slots: from the offset at on, the labels are written as these
 -- octets, and the hints become others.
@@ -32,11 +51,10 @@ module _ (slot : List (List ℕ) → ℕ) (b : List ℕ) (gap : ℕ) where
   abbrev pub Compresses : ℕ → List ℕ → List (List ℕ) → List ℕ → List ℕ → Type 0
   Compresses at hints [] octets after = (octets ≡ 0 ∷ []) × (after ≡ hints)
   Compresses at hints (l ∷ ls) octets after =
-      (MayPointTo b gap (slice_index hints (slot (l ∷ ls))) (l ∷ ls)
-      × (octets ≡ pointer_octets (slice_index hints (slot (l ∷ ls)))) × (after ≡ hints))
-      ⊎ ((MayPointTo b gap (slice_index hints (slot (l ∷ ls))) (l ∷ ls) → ⊥)
+      ((hint : ℕ) × Finds b gap hints (slot (l ∷ ls)) (l ∷ ls) hint × (octets ≡ pointer_octets hint) × (after ≡ hints))
+      ⊎ (FindsNone b gap hints (slot (l ∷ ls)) (l ∷ ls)
       × (rest : List ℕ) × (octets ≡ label_wire l ++ rest)
-      × Compresses (at + 1 + length l) (kept_hints hints (slot (l ∷ ls)) (length b) at) ls rest after)
+      × Compresses (at + 1 + length l) (kept_hints hints (slot (l ∷ ls)) at) ls rest after)
 
 -- the octets before the pointer, or before the closing zero, and it
 abbrev pub closed_by : List ℕ → Option ℕ → List ℕ

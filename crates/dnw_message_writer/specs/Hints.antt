@@ -26,11 +26,15 @@ abbrev pub eights_from : ℕ → ℕ → List ℕ → ℕ → ℕ
 eights_from zero p form hash = hash
 eights_from (suc count) p form hash = eights_from count (p + 8) form (mixed_eight hash (eight_at form p))
 
--- one of 512 slots
+-- how many slots there are
+abbrev pub slots : ℕ
+slots = 256
+
+-- the slot of a form
 abbrev pub slot_of_form : List ℕ → ℕ
 slot_of_form form =
-    if nat_lt (length form) 8 then hash_of form / 2 ^ 23
-    else mixed_eight (eights_from (length form / 8) 0 form (length form)) (eight_at form (length form - 8)) / 2 ^ 55
+    if nat_lt (length form) 8 then hash_of form / 2 ^ 24
+    else mixed_eight (eights_from (length form / 8) 0 form (length form)) (eight_at form (length form - 8)) / 2 ^ 56
 
 -- the slot of a suffix
 abbrev pub slot_of : List (List ℕ) → ℕ

@@ -79,6 +79,7 @@ impl WriterState {
     /// those that may be compressed are (RFC 3597, section 4).
     ///
     /// It fails with `Data` if its data are no fields of its class and type, and with `Memory` if an allocation fails.
+    #[inline(always)]
     pub fn record_of(
         &mut self,
         alloc: Global,
@@ -338,6 +339,7 @@ impl WriterState {
     }
 
     /// Adds the records of a set, or nothing of them: the first, and those after it. Returns the record after the set.
+    #[inline(always)]
     fn copy_set<'m>(
         &mut self,
         alloc: Global,
@@ -364,6 +366,7 @@ impl WriterState {
     }
 
     /// Adds the records of a set in turn, up to the first that fails.
+    #[inline(always)]
     fn add_set<'m>(
         &mut self,
         alloc: Global,
@@ -419,6 +422,7 @@ impl WriterState {
 }
 
 /// Returns the next record of a section that is added set by set.
+#[inline(always)]
 fn next_of<'m>(section: Section, records: &mut Records<'m>) -> Option<RecordRef<'m>>
     ensures next { MatchOption result (sets_of section records.old ≡ []) (λ x. sets_of section records.old ≡ x ∷ sets_of section records.new) }
     ensures fewer { IfSome result (λ x. length records.new < length records.old) }

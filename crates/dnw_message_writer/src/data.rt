@@ -73,6 +73,7 @@ impl<'a> Pieces<'a> {
 /// Returns the pieces of data of a class and a type, by their codes: the names that may be compressed, which are those of the types of
 /// RFC 1035 (RFC 3597, section 4), and the octets between them. Returns `None` if the octets are not data of the class and type, with
 /// every name in its wire form. Nothing is allocated.
+#[inline(always)]
 pub fn pieces_of(class: u16, record_type: u16, octets: &[u8]) -> Option<Pieces<'_>>
     ensures some { IfSome result (AreOfData (fields_of class record_type octets.now) octets.now) }
     ensures none { IfNone result (IsData (fields_of class record_type octets.now) octets.now → ⊥) }
@@ -154,6 +155,7 @@ fn are_data(kinds: &[Kind], octets: &[u8]) -> bool
 }
 
 /// Returns the octets of the field of this kind that the octets begin with.
+#[inline(always)]
 fn first_field(kind: Kind, octets: &[u8]) -> Option<&[u8]>
     ensures some { IfSome result (λ own. HasField kind octets.now own.now) }
     ensures none { IfNone result (HasNoField kind octets.now) }
@@ -168,6 +170,7 @@ fn first_field(kind: Kind, octets: &[u8]) -> Option<&[u8]>
 }
 
 /// Returns the octets of the field of this kind, no name, that the octets begin with.
+#[inline(always)]
 fn own_field(kind: Kind, octets: &[u8]) -> Option<&[u8]>
     requires { IsNoName kind }
     ensures some { IfSome result (λ own. HasField kind octets.now own.now) }
@@ -226,6 +229,7 @@ fn checked_field(kind: Kind, octets: &[u8]) -> Option<&[u8]>
 }
 
 /// Returns the labels of the name whose wire form the octets begin with, or `None` if they begin with none (RFC 1035, section 3.1).
+#[inline(always)]
 pub fn whole_name(octets: &[u8]) -> Option<WireLabels<'_>>
     ensures some { IfSome result (λ labels. AreLabels labels × (octets.now ≡ wire labels ++ drop (length (wire labels)) octets.now)) }
     ensures none { IfNone result (StartsNoName octets.now) }

@@ -2,8 +2,11 @@
 ghost use Rattle.std.specs.Prelude.{◌≡◌, ◌≤◌, ◌<◌, ◌+◌, ◌/◌, length};
 ghost use Rattle.dnw_message_writer.specs.Hints.{eight_at, eights_from, hash_of, mixed, mixed_eight, slot_of_form};
 
-/// How many hints there are. Each is an offset of the message, or 0 if there is none.
+/// How many hints there are, two for each slot. Each is an offset of the message, or 0 if there is none.
 pub const SLOTS: usize = 512;
+
+/// How far after the later hint of a slot the former one is, which it took the place of.
+pub(crate) const FORMER: usize = 256;
 
 /// The hash of a short form is multiplied by this number for each octet.
 const FACTOR: u32 = 2_654_435_761;
@@ -15,13 +18,13 @@ const LONG_FACTOR: u64 = 11_400_714_819_323_198_485;
 #[inline(always)]
 pub(crate) fn slot_of(form: &[u8]) -> usize
     ensures slot { result ≡ slot_of_form form.now }
-    ensures there { result < 512 }
+    ensures there { result < 256 }
 {
     if form.len() < 8 {
-        return (hash_of(form) >> 23) as usize;
+        return (hash_of(form) >> 24) as usize;
     }
     let last = eight_at(form, form.len() - 8);
-    (mixed_eight(hash_of_eights(form), last) >> 55) as usize
+    (mixed_eight(hash_of_eights(form), last) >> 56) as usize
 }
 
 /// Returns the hash of the octets of a long form, eight at a time, but for those of the last eight that are left then.

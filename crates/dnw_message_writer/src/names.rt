@@ -1,10 +1,10 @@
 //! Names, written with pointers to where their suffixes stand (RFC 1035, section 4.1.4).
 ghost use Rattle.std.specs.Prelude.{◌≡◌, ◌↔◌, ◌<◌, ◌≤◌, ◌+◌, ◌/◌, ◌%◌, ◌++◌, ◌∷◌, [], ℕ, List, length, take, IsTrue, IfSome, IfNone};
 ghost use Rattle.dnw_base.specs.Names.{encoded_size};
-ghost use Rattle.dnw_message_writer.specs.CompressedNames.{Compresses, MayPointTo, PutsForm, PutsPast, kept_hints, put_at, pointer_octets, spelled};
+ghost use Rattle.dnw_message_writer.specs.CompressedNames.{Compresses, Finds, FindsNone, MayPointTo, PutsForm, PutsPast, kept_hints, put_at, pointer_octets, spelled};
 ghost use Rattle.dnw_message_writer.specs.Hints.{slot_of};
 
-use crate::hints::{SLOTS, slot_of};
+use crate::hints::{FORMER, SLOTS, slot_of};
 use crate::standing::{FIRST_ITEM, stands_at};
 use dnw_base::limits::POINTER_BITS;
 use dnw_name_form::wire_labels::WireLabels;
@@ -67,16 +67,40 @@ fn spell(message: &[u8], gap: usize, hints: &mut [u16; SLOTS], labels: WireLabel
             };
         };
         let slot = slot_of(form);
-        let hint = hints[slot];
-        if is_usable(message, gap, hint, suffix) {
+        if let Some(hint) = found(message, gap, hints, slot, suffix) {
             return Spelling {
                 front,
                 pointer: Some(hint),
             };
         }
-        keep(hints, slot, at, at + front);
+        keep(hints, slot, at + front);
         front += label.len() + 1;
     }
+}
+
+/// Returns the hint of a slot to which a pointer may stand for the labels: the later one, or else the former.
+#[inline(always)]
+fn found(
+    message: &[u8],
+    gap: usize,
+    hints: &[u16; SLOTS],
+    slot: usize,
+    labels: WireLabels<'_>,
+) -> Option<u16>
+    requires gap { gap ≤ length message.now }
+    requires slot { slot < 256 }
+    ensures some { IfSome result (λ hint. Finds message.now gap hints.now slot labels.entry hint) }
+    ensures none { IfNone result (FindsNone message.now gap hints.now slot labels.entry) }
+{
+    let later = hints[slot];
+    if is_usable(message, gap, later, labels.clone()) {
+        return Some(later);
+    }
+    let former = hints[slot + FORMER];
+    if is_usable(message, gap, former, labels) {
+        return Some(former);
+    }
+    None
 }
 
 /// Returns `true` if a pointer to this offset may stand for the labels.
@@ -93,13 +117,14 @@ pub(crate) fn is_usable(message: &[u8], gap: usize, hint: u16, labels: WireLabel
     start < POINTER_OFFSETS && stands_at(message, gap, start, labels)
 }
 
-/// Puts the offset of a suffix into its slot, unless a longer suffix of the same name, which begins at `at`, has it.
+/// Puts the offset of a suffix into its slot as the later hint, and that one as the former.
 #[inline(always)]
-fn keep(hints: &mut [u16; SLOTS], slot: usize, at: usize, offset: usize)
-    requires { slot < length hints.old }
-    ensures { hints.new ≡ kept_hints hints.old slot at offset }
+fn keep(hints: &mut [u16; SLOTS], slot: usize, offset: usize)
+    requires { slot < 256 }
+    ensures { hints.new ≡ kept_hints hints.old slot offset }
 {
-    if offset < POINTER_OFFSETS && (hints[slot] as usize) < at {
+    if offset < POINTER_OFFSETS {
+        hints[slot + FORMER] = hints[slot];
         hints[slot] = offset as u16;
     }
 }

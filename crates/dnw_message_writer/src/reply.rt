@@ -91,6 +91,7 @@ impl WriterState {
     }
 
     /// Begins a message with a question, if there is one.
+    #[inline(always)]
     fn begin_with(
         &mut self,
         message: &mut [u8],
@@ -152,6 +153,7 @@ fn reply_code(asked: Asked, flags: u16) -> u16
 }
 
 /// Returns what a request asks, and the question that its reply repeats.
+#[inline(always)]
 fn asked_of(request: &[u8]) -> (Asked, Option<QueryRef<'_>>)
     ensures { AsksOf request.now result.0 result.1 }
 {
@@ -167,6 +169,7 @@ fn asked_of(request: &[u8]) -> (Asked, Option<QueryRef<'_>>)
 }
 
 /// Returns what a message asks by EDNS.
+#[inline(always)]
 fn asked_by_edns(message: &MessageRef<'_>) -> Asked
     ensures { AsksByEdns message.now result }
 {
