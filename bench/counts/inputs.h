@@ -30,6 +30,19 @@ static const uint8_t SIGNED[] =
     "\x00\x01\x0d\x02\x00\x00\x0e\x10\x00\x00\x00\x02\x00\x00\x00\x01\x00\x07\x07" "example\x00sig"
     "\x01h\x07" "example\x00\x00\x01\x00\x01\x00\x00\x00\x3c\x00\x04\xc0\x00\x02\x01";
 
+/* Eight lines of a zone file, each a record with its owner, time to live and class. */
+static const char LINES[] =
+    "www.example.org. 3600 IN A 192.0.2.1\n"
+    "www.example.org. 3600 IN AAAA 2001:db8::1\n"
+    "example.org. 3600 IN MX 10 mail.example.org.\n"
+    "example.org. 3600 IN TXT \"v=spf1 mx ip4:192.0.2.0/24 -all\"\n"
+    "child.example.org. 3600 IN NS ns1.example.net.\n"
+    "child.example.org. 3600 IN DS 60485 13 2 D4B7D520E7BB5F0F67674A0CCEB1E3E0614B93C4F9E99B8383F6A1E4469DA50A\n"
+    "2t7b4g4vsa5smi47k61mv5bv1a22bojr.example.org. 3600 IN NSEC3 1 0 0 - 2VPTU5TIMAMQTTGL4LUU9KG21E0AOR3S A RRSIG\n"
+    "www.example.org. 3600 IN RRSIG A 13 3 3600 20261227000000 20261127000000 12345 example.org. "
+    "oJB1W6WNGv+ldvQ3WDG0MQkg5IEhjRip8WTrPYGv07h108dUKGMeDPKijVCHX3DDKdfb+v6oB9wfuh3DTJXUAfI/M0zmO/zz8bW0Rznl8O3t\n";
+#define LINES_LEN (sizeof LINES - 1)
+
 /* Queries for addresses with EDNS and DO: of a host, of a name below a zone that is delegated, and of a name that is not there. */
 #define ASKS(name) "\x12\x34\x01\x10\x00\x01\x00\x00\x00\x00\x00\x01" name "\x00\x00\x01\x00\x01\x00\x00\x29\x04\xd0\x00\x00\x80\x00\x00\x00"
 #define ZONE "\x07" "example\x03org"

@@ -3,6 +3,7 @@
    from a pool that is used again, as in its servers. */
 #include <ldns/ldns.h>
 #include <libknot/libknot.h>
+#include <libzscanner/scanner.h>
 #include <stdlib.h>
 
 #include "inputs.h"
@@ -258,6 +259,39 @@ static void ldns_print(void)
     ldns_rr_free(record);
 }
 
+static void knot_record(zs_scanner_t *scanner)
+{
+    sum += scanner->r_owner_length + scanner->r_data_length + 10;
+}
+
+static void knot_lines(void)
+{
+    static zs_scanner_t scanner;
+    static bool is_made;
+    if (!is_made)
+        must(zs_init(&scanner, "example.org.", 1, 3600) == 0);
+    is_made = true;
+    must(zs_set_processing(&scanner, knot_record, NULL, NULL) == 0);
+    must(zs_set_input_string(&scanner, LINES, LINES_LEN) == 0 && zs_parse_all(&scanner) == 0);
+}
+
+static void ldns_lines(void)
+{
+    char line[256];
+    for (const char *at = LINES; *at != 0;) {
+        size_t len = strcspn(at, "\n");
+        ldns_rr *record;
+        memcpy(line, at, len);
+        line[len] = 0;
+        must(ldns_rr_new_frm_str(&record, line, 3600, NULL, NULL) == LDNS_STATUS_OK);
+        sum += ldns_rdf_size(ldns_rr_owner(record)) + 10;
+        for (size_t n = 0; n < ldns_rr_rd_count(record); n++)
+            sum += ldns_rdf_size(ldns_rr_rdf(record, n));
+        ldns_rr_free(record);
+        at += len + 1;
+    }
+}
+
 int main(int argc, char **argv)
 {
     static const struct {
@@ -268,6 +302,7 @@ int main(int argc, char **argv)
         {"name-print", knot_name_print, ldns_name_print}, {"100-names-sort", knot_sort, ldns_sort},
         {"message-walk", knot_walk, ldns_walk}, {"message-pack", knot_pack, ldns_pack}, {"answer-write", knot_answer, NULL},
         {"referral-write", knot_referral, NULL}, {"nxdomain-write", knot_nxdomain, NULL}, {"record-print", knot_print, ldns_print},
+        {"8-records-parse", knot_lines, ldns_lines}, {"8-entries-read", knot_lines, ldns_lines},
     };
     begin();
     make_sets(&answer, ANSWER, COUNT(ANSWER));

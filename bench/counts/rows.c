@@ -175,6 +175,33 @@ static void types_read(void)
     sum += count;
 }
 
+static void records_parse(void)
+{
+    static uint8_t octets[DNW_ZONE_OCTETS_SIZE];
+    const uint8_t *line = (const uint8_t *)LINES, *end = line + LINES_LEN;
+    while (line < end) {
+        const uint8_t *feed = memchr(line, '\n', (size_t)(end - line));
+        size_t len;
+        must(dnw_record_parse(line, (size_t)(feed - line), octets, 0, octets, sizeof octets, &len));
+        sum += len;
+        line = feed + 1;
+    }
+}
+
+static void entries_read(void)
+{
+    static uint8_t octets[DNW_ZONE_OCTETS_SIZE];
+    struct dnw_zone zone;
+    struct dnw_zone_entry entry = {0};
+    size_t at = 0;
+    must(dnw_zone_begin(NAME, NAME_LEN, &zone));
+    do {
+        must(dnw_zone_next((const uint8_t *)LINES + at, LINES_LEN - at, false, &zone, octets, sizeof octets, &entry));
+        at += entry.used;
+        sum += entry.len;
+    } while (entry.kind != DNW_ZONE_END);
+}
+
 int main(int argc, char **argv)
 {
     static const struct {
@@ -185,6 +212,7 @@ int main(int argc, char **argv)
         {"100-names-sort", names_sort}, {"message-read", message_read}, {"fields-walk", fields_walk}, {"message-walk", message_walk},
         {"message-pack", message_pack}, {"answer-write", answer_write}, {"referral-write", referral_write}, {"nxdomain-write", nxdomain_write},
         {"record-print", record_print}, {"signed-one", signed_one}, {"types-read", types_read},
+        {"8-records-parse", records_parse}, {"8-entries-read", entries_read},
     };
     if (argc != 3) {
         for (size_t i = 0; i < sizeof rows / sizeof rows[0]; i++)

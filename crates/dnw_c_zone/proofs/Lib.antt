@@ -2,3 +2,4 @@ pub mod TokenParts
 pub mod TokenSizes
 pub mod TokenTexts
 pub mod ZoneForms
+pub mod StatesKept

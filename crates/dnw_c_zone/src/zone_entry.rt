@@ -1,6 +1,6 @@
 //! What C learns of an entry of a zone file.
 ghost use Rattle.std.specs.Prelude.{◌≡◌, ◌≤◌, ◌++◌, ℕ, List, length, take, drop, IfOk, IfErr, IfSome, IfNone};
-ghost use Rattle.dnw_base.specs.Limits.{max_data};
+ghost use Rattle.dnw_base.specs.Limits.{max_data, max_name};
 ghost use Rattle.dnw_c_base.specs.declared.failure.Failure.TheVariants.{NoMemory};
 ghost use Rattle.dnw_c_zone.specs.ZoneStates.{owner_form};
 ghost use Rattle.dnw_c_zone.specs.ZoneEntries.{IsFile, PutsFile, PutsFound, PutsInclude, PutsRecord, fault_entry, fault_in, has_zero, is_file_name, no_file, plain_entry, reason_of_zone_rule, zone_record_octets};
@@ -133,10 +133,12 @@ fn put_record(
 
 /// Returns the octets of a record.
 fn record_octets(alloc: Global, owner: &[u8], found: &ZoneRecord) -> Result<Vec<u8>, AllocError>
-    requires { length found.now.wire.items ≤ max_data }
+    requires few { length owner.now ≤ max_name }
+    requires data { length found.now.wire.items ≤ max_data }
     ensures { IfOk result (λ own. own.items ≡ zone_record_octets owner.now found.now) }
 {
-    let mut own = Vec::from_slice(alloc, owner)?;
+    let mut own = Vec::with_capacity(alloc, owner.len() + found.wire.len() + 10)?;
+    own.extend_from_slice(owner)?;
     own.extend_from_slice(&found.record_type.code().to_be_bytes())?;
     own.extend_from_slice(&found.class.code().to_be_bytes())?;
     own.extend_from_slice(&found.ttl.to_be_bytes())?;

@@ -1,14 +1,15 @@
 //! Zone files, entry by entry, of which the caller keeps the state and has the text in parts.
 ghost use Rattle.std.specs.Prelude.{◌≡◌, IfOk, IfErr};
 ghost use Rattle.dnw_c_base.specs.Results.{Returns};
+ghost use Rattle.dnw_c_zone.specs.Inside.StateResults.{with_state};
 ghost use Rattle.dnw_c_zone.specs.ZoneFileCalls.{BeginsZone, IncludesFile, IsGivenOrigin, LacksOrigin, TakesZoneEntry};
 
 use crate::parsing::origin_of;
 use crate::zone_entry::{ZoneEntry, put_found};
 use crate::zone_place::{FilePlace, moved};
-use crate::zone_state::{ZoneState, context_of, place_of_state, zone_state_of};
+use crate::zone_state::{ZoneState, context_of, place_of_state, put_state, zone_state_of};
 use dnw_c_base::failure::Failure;
-use dnw_c_base::results::{report, report_both};
+use dnw_c_base::results::report;
 use dnw_name::name::Name;
 use dnw_zone_file::context::Context;
 use dnw_zone_file::step::take_entry;
@@ -50,7 +51,7 @@ pub extern "C" fn dnw_zone_next(
 ) -> u32
     ensures { Returns (TakesZoneEntry text.now more zone.old octets.old octets.new) (entry.old, zone.old) (entry.new, zone.new) result }
 {
-    report_both(next(alloc, text, more, zone, octets), entry, zone)
+    report(next(alloc, text, more, zone, octets), entry)
 }
 
 /// Returns the state before the first entry.
@@ -85,15 +86,16 @@ pub(crate) fn name_of(alloc: Global, form: &[u8]) -> Result<Name, Failure>
     }
 }
 
-/// Puts what a text begins with. Returns what C learns of it, and the state after it.
+/// Puts what a text begins with, and moves past it. Returns what C learns of it.
 fn next(
     alloc: Global,
     text: &[u8],
     more: bool,
-    zone: &ZoneState,
+    zone: &mut ZoneState,
     octets: &mut [u8],
-) -> Result<(ZoneEntry, ZoneState), Failure>
-    ensures { TakesZoneEntry text.now more zone.now octets.old octets.new result }
+) -> Result<ZoneEntry, Failure>
+    ensures takes { TakesZoneEntry text.now more zone.old octets.old octets.new (with_state result zone.new) }
+    ensures same { IfErr result (λ _. zone.new ≡ zone.old) }
 {
     let Some(mut context) = context_of(alloc, zone) else {
         return Err(Failure::BadItem);
@@ -102,7 +104,10 @@ fn next(
     let mut line = Vec::new(alloc);
     let step = take_entry(alloc, &mut context, text, more, &mut line);
     match put_found(alloc, at, text, &context, &step, octets) {
-        Ok(entry) => Ok((entry, zone_state_of(&context, moved(at, text, step.used)))),
+        Ok(entry) => {
+            put_state(zone, &context, moved(at, text, step.used));
+            Ok(entry)
+        }
         Err(failure) => Err(failure),
     }
 }

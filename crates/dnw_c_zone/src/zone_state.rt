@@ -68,6 +68,26 @@ pub(crate) fn zone_state_of(context: &Context, at: FilePlace) -> ZoneState
     }
 }
 
+/// Changes a state into that at a place, after the entries that made the context. It is not built elsewhere and copied.
+pub(crate) fn put_state(zone: &mut ZoneState, context: &Context, at: FilePlace)
+    ensures { zone.new ≡ zone_state_of context.now at }
+{
+    let origin = origin_form(context);
+    let owner = owner_form(context);
+    zone.offset = at.offset;
+    zone.line = at.line;
+    zone.column = at.column;
+    zone.default_ttl = or_zero(context.default_ttl);
+    zone.last_ttl = or_zero(context.last_ttl);
+    zone.record_class = context.class.code();
+    zone.has_default_ttl = has_number(context.default_ttl);
+    zone.has_last_ttl = has_number(context.last_ttl);
+    zone.origin_len = origin.len() as u8;
+    zone.owner_len = owner.len() as u8;
+    put_in_room(&mut zone.origin, origin);
+    put_in_room(&mut zone.owner, owner);
+}
+
 /// Returns the place up to which a state has read.
 pub(crate) fn place_of_state(zone: &ZoneState) -> FilePlace
     ensures { result ≡ place_of_state zone.now }
@@ -133,8 +153,17 @@ fn in_room(octets: &[u8]) -> [u8; MAX_NAME]
     ensures { result ≡ in_room octets.now }
 {
     let mut room = [0; MAX_NAME];
-    room[..octets.len()].copy_from_slice(octets);
+    put_in_room(&mut room, octets);
     room
+}
+
+/// Puts octets at the front of room for a name, and zeros after them.
+fn put_in_room(room: &mut [u8; MAX_NAME], octets: &[u8])
+    requires { length octets.now ≤ max_name }
+    ensures { room.new ≡ in_room octets.now }
+{
+    *room = [0; MAX_NAME];
+    room[..octets.len()].copy_from_slice(octets);
 }
 
 /// Returns so many octets of room for a name.

@@ -23,3 +23,6 @@ pub mod DataBack
 pub mod NoFault
 pub mod OneText
 pub mod Wires
+pub mod Lengths
+pub mod Pushed
+pub mod NamesRead

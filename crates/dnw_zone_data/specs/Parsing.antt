@@ -110,11 +110,15 @@ takes_all (kinds.Octets Other) = true
 takes_all (kinds.List list) = true
 takes_all kind = false
 
+-- a text writes octets up to the end
+abbrev pub SpellsOctets : Shown → List ℕ → List ℕ → Type 0
+SpellsOctets Hex text own = IsUtf8 text × IsHexText text own
+SpellsOctets Base64 text own = IsUtf8 text × IsBase64Text text own
+SpellsOctets shown text own = ⊥
+
 -- all words write octets as one
 abbrev pub AllSpell : Shown → List ℕ → List ℕ → Type 0
-AllSpell Hex left own = IsUtf8 (without_spaces left) × IsHexText (without_spaces left) own
-AllSpell Base64 left own = IsUtf8 (without_spaces left) × IsBase64Text (without_spaces left) own
-AllSpell shown left own = ⊥
+AllSpell shown left own = SpellsOctets shown (without_spaces left) own
 
 -- all words are the items of a list
 abbrev pub AreList : ListKind → List ℕ → FieldValue → Type 0

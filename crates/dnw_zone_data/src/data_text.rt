@@ -131,10 +131,30 @@ pub fn parse_in_line(
     ensures { MatchResult result (λ own. IsTextOf (option_copied origin.entry) (number_forms (type_code record_type)) (fields_of (class_code class) (type_code record_type)) text.now own.items)
         (FailsText (option_copied origin.entry) (number_forms (type_code record_type)) (fields_of (class_code class) (type_code record_type)) len text.now) }
 {
+    let mut octets = Vec::new(alloc);
+    append_in_line(alloc, class, record_type, len, text, origin, &mut octets)?;
+    Ok(octets)
+}
+
+/// Appends the octets of the data that the bytes of a text are, as `parse_in_line` returns them. After an error some may be appended.
+pub fn append_in_line(
+    alloc: Global,
+    class: DNSClass,
+    record_type: RecordType,
+    len: usize,
+    text: &[u8],
+    origin: Option<&Name>,
+    out: &mut Vec<u8>,
+) -> Result<(), DataTextError>
+    requires within { length text.now ≤ len }
+    ensures { MatchResult result (λ _. (own : List ℕ) × IsTextOf (option_copied origin.entry) (number_forms (type_code record_type)) (fields_of (class_code class) (type_code record_type)) text.now own
+        × (out.new.items ≡ out.old.items ++ own))
+        (FailsText (option_copied origin.entry) (number_forms (type_code record_type)) (fields_of (class_code class) (type_code record_type)) len text.now) }
+{
     let start = after_spaces(text);
     let (word, rest) = split_word(start);
     if word == MARK {
-        return parse_generic(alloc, class, record_type, rest, len);
+        return append_generic(alloc, class, record_type, rest, len, out);
     }
     let kinds = fields_of(class, record_type, stand_in(start));
     if !has_own_form(kinds) {
@@ -144,7 +164,15 @@ pub fn parse_in_line(
             wanted: Wanted::Generic,
         });
     }
-    parse_own(alloc, number_forms(record_type), kinds, len, text, origin)
+    append_own(
+        alloc,
+        number_forms(record_type),
+        kinds,
+        len,
+        text,
+        origin,
+        out,
+    )
 }
 
 /// Returns octets in place of those that a text in the type's own form is, which begins here.
@@ -155,6 +183,25 @@ fn stand_in(start: &[u8]) -> &'static [u8]
         return &[];
     }
     &[1]
+}
+
+/// Appends the octets after `\#` in a text of this length, if they are data of the class and type.
+fn append_generic(
+    alloc: Global,
+    class: DNSClass,
+    record_type: RecordType,
+    left: &[u8],
+    len: usize,
+    out: &mut Vec<u8>,
+) -> Result<(), DataTextError>
+    requires within { length left.now ≤ len }
+    ensures { MatchResult result (λ _. (own : List ℕ) × IsSized left.now own
+        × ArePlain (fields_of (class_code class) (type_code record_type) own) own × (out.new.items ≡ out.old.items ++ own))
+        (FailsGeneric (fields_of (class_code class) (type_code record_type)) len left.now) }
+{
+    let octets = parse_generic(alloc, class, record_type, left, len)?;
+    out.extend_from_slice(octets.as_slice())?;
+    Ok(())
 }
 
 /// Returns the octets after `\#` in a text of this length, if they are data of the class and type.
@@ -218,26 +265,26 @@ fn is_written_as(
     written == octets
 }
 
-/// Returns the octets of the fields that a text is, at the end of a line of this length.
-fn parse_own(
+/// Appends the octets of the fields that a text is, at the end of a line of this length.
+fn append_own(
     alloc: Global,
     forms: &[NumberForm],
     kinds: &[Kind],
     len: usize,
     text: &[u8],
     origin: Option<&Name>,
-) -> Result<Vec<u8>, DataTextError>
+    out: &mut Vec<u8>,
+) -> Result<(), DataTextError>
     requires within { length text.now ≤ len }
-    ensures { MatchResult result (λ own. (values : List FieldValue) × AreFieldTexts (option_copied origin.entry) forms.now kinds.now text.now values × (own.items ≡ flat_map field_wire values))
+    ensures { MatchResult result (λ _. (values : List FieldValue) × AreFieldTexts (option_copied origin.entry) forms.now kinds.now text.now values
+        × (out.new.items ≡ out.old.items ++ flat_map field_wire values))
         (λ e. (e ≡ Memory) ⊎ FailsFields (option_copied origin.entry) (length kinds.now) len forms.now kinds.now text.now e) }
 {
     let place = Place {
         count: kinds.len(),
         len,
     };
-    let mut octets = Vec::new(alloc);
-    parse_fields(alloc, place, forms, kinds, text, origin, &mut octets)?;
-    Ok(octets)
+    parse_fields(alloc, place, forms, kinds, text, origin, out)
 }
 
 /// Returns `true` for types of which many servers know no text.

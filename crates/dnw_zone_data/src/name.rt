@@ -2,7 +2,7 @@
 ghost use Rattle.std.specs.Prelude.{◌≡◌, ◌++◌, IfOk, string_bytes};
 ghost use Rattle.std.specs.Option.{option_copied};
 ghost use Rattle.dnw_name_text.specs.NameTexts.{full_name_text};
-ghost use Rattle.dnw_zone_data.specs.NameReading.{named_at};
+ghost use Rattle.dnw_zone_data.specs.NameReading.{AppendsName, named_at};
 
 use crate::words::begins_with_quote;
 use arrayvec::ArrayString;
@@ -11,7 +11,7 @@ use dnw_name::name::Name;
 use dnw_name::name_ref::NameRef;
 use dnw_name_form::form::WireForm;
 use dnw_name_text::printing::{MAX_TEXT, push_name};
-use dnw_name_text::reading::read;
+use dnw_name_text::reading::{read, read_into};
 use std::alloc::{AllocError, Global};
 
 /// Appends the text of a name, fully qualified.
@@ -38,5 +38,33 @@ pub fn read_name(alloc: Global, text: &[u8], origin: Option<&Name>) -> Option<Wi
     match read(alloc, text, labels) {
         Ok(name) if name.is_fqdn => Some(name.form),
         _ => None,
+    }
+}
+
+/// Appends the wire form of the name that a word gives, as `read_name` returns it. Returns `false` if it gives none; nothing is
+/// changed then.
+#[tactic(auto, using(crate::proofs::NamesRead::is_named, crate::proofs::NamesRead::is_relative, crate::proofs::NamesRead::is_none))]
+pub fn append_name(
+    alloc: Global,
+    text: &[u8],
+    origin: Option<&Name>,
+    out: &mut Vec<u8>,
+) -> Result<bool, AllocError>
+    ensures { IfOk result (AppendsName (named_at (option_copied origin.entry) text.now) out.old.items out.new.items) }
+{
+    if begins_with_quote(text) {
+        return Ok(false);
+    }
+    let labels = match origin {
+        Some(name) => Some(name.wire_labels()),
+        None => None,
+    };
+    let mut form = WireForm::new(alloc);
+    match read_into(&mut form, text, labels) {
+        Ok(true) => {
+            out.extend_from_slice(form.as_bytes())?;
+            Ok(true)
+        }
+        _ => Ok(false),
     }
 }

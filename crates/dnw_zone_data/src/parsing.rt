@@ -1,5 +1,5 @@
 //! Fields in texts.
-ghost use Rattle.std.specs.Prelude.{◌≡◌, ◌≤◌, ◌⊎◌, ◌++◌, ℕ, List, Bool, [], length, flat_map, IfOk, IfErr, IfSome, MatchOption};
+ghost use Rattle.std.specs.Prelude.{◌≡◌, ◌≤◌, ◌<◌, ◌+◌, ◌-◌, ◌⊎◌, ◌∷◌, ◌++◌, ℕ, List, Bool, [], length, take, drop, flat_map, IfOk, IfErr, IfSome, MatchOption};
 ghost use Rattle.std.specs.Option.{option_copied, option_map};
 ghost use Rattle.dnw_data.specs.Values.{FieldValue, counted, octets};
 ghost use Rattle.dnw_zone_values.specs.Strings.{IsLongText};
@@ -10,12 +10,12 @@ ghost use Rattle.dnw_zone_data.specs.Inside.Reads.{AppendsRest, IsEndedBy};
 ghost use Rattle.dnw_zone_data.specs.Appending.{AppendsOne};
 
 use crate::error::{DataTextError, Wanted, wanted_of};
-use crate::name::read_name;
+use crate::name::append_name;
 use crate::number_form::{NumberForm, next_form, u8_in, u16_in, u32_in};
 use crate::params::parse_params;
-use crate::spelling::{base64_of, hex_of, pairs_of, spelled, string_of, text_of};
+use crate::spelling::{pairs_of, push_octets, push_spelled, push_string, push_text};
 use crate::types::{parse_type, parse_types};
-use crate::words::{after_spaces, split_word, without_spaces};
+use crate::words::{after_spaces, has_no_spaces, split_word, without_spaces};
 use dnw_data::kind::{Kind, ListKind, Shown};
 use dnw_name::name::Name;
 use dnw_zone_values::address::{parse_ipv4, parse_ipv6};
@@ -130,26 +130,11 @@ fn parse_joined(
 ) -> Result<bool, AllocError>
     ensures { IfOk result (AppendsOne (λ value. (own : List ℕ) × AllSpell shown left.now own × (value ≡ octets own)) out.old.items out.new.items) }
 {
-    let Some(own) = joined_octets(alloc, shown, left)? else {
-        return Ok(false);
-    };
-    out.extend_from_slice(own.as_slice())?;
-    Ok(true)
-}
-
-/// Returns the octets that all words write as one, if any.
-fn joined_octets(alloc: Global, shown: Shown, left: &[u8]) -> Result<Option<Vec<u8>>, AllocError>
-    ensures { IfOk result (λ x. MatchOption x ((own : List ℕ) → ¬ (AllSpell shown left.now own)) (λ own. AllSpell shown left.now own.items)) }
-{
-    let joined = without_spaces(alloc, left)?;
-    let Ok(text) = str::from_utf8(joined.as_slice()) else {
-        return Ok(None);
-    };
-    match shown {
-        Shown::Hex => hex_of(alloc, text),
-        Shown::Base64 => base64_of(alloc, text),
-        Shown::Text | Shown::Tag | Shown::Base32Hex | Shown::Other => Ok(None),
+    if has_no_spaces(left) {
+        return push_octets(shown, left, out);
     }
+    let joined = without_spaces(alloc, left)?;
+    push_octets(shown, joined.as_slice(), out)
 }
 
 /// Appends the octets of the items that all words are. Returns `false` if they are none of this kind.
@@ -179,12 +164,12 @@ fn parse_texts(alloc: Global, text: &[u8], out: &mut Vec<u8>) -> Result<bool, Al
     }
     'strings: while !left.is_empty() {
         let (word, rest) = split_word(left);
-        let Some(own) = string_of(alloc, word)? else {
+        let start = out.len();
+        out.push(0)?;
+        if !push_string(word, out)? {
             return Ok(false);
-        };
-        let octets = own.as_slice();
-        out.push(octets.len() as u8)?;
-        out.extend_from_slice(octets)?;
+        }
+        put_len(out, start);
         left = after_spaces(rest);
     }
     Ok(true)
@@ -215,10 +200,10 @@ fn parse_word(
         return parse_name(alloc, word, origin, out);
     }
     if let Kind::Counted(shown) = kind {
-        return parse_counted(alloc, shown, word, out);
+        return parse_counted(shown, word, out);
     }
     if let Kind::Octets(shown) = kind {
-        return parse_octets(alloc, shown, word, out);
+        return parse_octets(shown, word, out);
     }
     let Ok(text) = str::from_utf8(word) else {
         return Ok(false);
@@ -253,11 +238,7 @@ fn parse_name(
 ) -> Result<bool, AllocError>
     ensures { IfOk result (AppendsOne (IsNameField (option_copied origin.entry) word.now) out.old.items out.new.items) }
 {
-    let Some(form) = read_name(alloc, word, origin) else {
-        return Ok(false);
-    };
-    out.extend_from_slice(form.as_bytes())?;
-    Ok(true)
+    append_name(alloc, word, origin, out)
 }
 
 /// Appends the octets of a number in a form, or of a time. Returns `false` if the text is none of this kind.
@@ -322,45 +303,41 @@ fn parse_eui64(alloc: Global, text: &str, out: &mut Vec<u8>) -> Result<bool, All
 }
 
 /// Appends a length octet and the octets that a word writes. Returns `false` if it writes none.
-fn parse_counted(
-    alloc: Global,
-    shown: Shown,
-    word: &[u8],
-    out: &mut Vec<u8>,
-) -> Result<bool, AllocError>
+fn parse_counted(shown: Shown, word: &[u8], out: &mut Vec<u8>) -> Result<bool, AllocError>
     ensures { IfOk result (AppendsOne (AreOctetsOf (SpellsShown shown) counted word.now) out.old.items out.new.items) }
 {
-    let Some(own) = spelled(alloc, shown, word)? else {
+    let start = out.len();
+    out.push(0)?;
+    if !push_spelled(shown, word, out)? {
         return Ok(false);
-    };
-    let octets = own.as_slice();
-    out.push(octets.len() as u8)?;
-    out.extend_from_slice(octets)?;
+    }
+    put_len(out, start);
     Ok(true)
 }
 
+/// Puts the number of octets after an offset there, in place of an octet.
+fn put_len(out: &mut Vec<u8>, start: usize)
+    requires within { start < length out.old.items }
+    requires few { length out.old.items ≤ start + 256 }
+    ensures { out.new.items ≡ take start out.old.items ++ (length out.old.items - start - 1) ∷ drop (start + 1) out.old.items }
+{
+    let len = out.len() - start - 1;
+    out.as_mut_slice()[start] = len as u8;
+}
+
 /// Appends the octets of a text that is one word. Returns `false` if it is none.
-fn parse_octets(
-    alloc: Global,
-    shown: Shown,
-    word: &[u8],
-    out: &mut Vec<u8>,
-) -> Result<bool, AllocError>
+fn parse_octets(shown: Shown, word: &[u8], out: &mut Vec<u8>) -> Result<bool, AllocError>
     ensures { IfOk result (AppendsOne (IsOctetsOf shown word.now) out.old.items out.new.items) }
 {
     match shown {
-        Shown::Text => parse_text(alloc, word, out),
+        Shown::Text => parse_text(word, out),
         Shown::Tag | Shown::Hex | Shown::Base32Hex | Shown::Base64 | Shown::Other => Ok(false),
     }
 }
 
 /// Appends the octets of a text of any length. Returns `false` if the text is none.
-fn parse_text(alloc: Global, word: &[u8], out: &mut Vec<u8>) -> Result<bool, AllocError>
+fn parse_text(word: &[u8], out: &mut Vec<u8>) -> Result<bool, AllocError>
     ensures { IfOk result (AppendsOne (AreOctetsOf IsLongText octets word.now) out.old.items out.new.items) }
 {
-    let Some(own) = text_of(alloc, word)? else {
-        return Ok(false);
-    };
-    out.extend_from_slice(own.as_slice())?;
-    Ok(true)
+    push_text(word, out)
 }

@@ -1,12 +1,11 @@
 //! The octets that texts write.
-ghost use Rattle.std.specs.Prelude.{◌≡◌, ◌≤◌, ℕ, List, length, IfOk, IfSome, MatchOption};
-ghost use Rattle.std.specs.Str.{IsUtf8};
-ghost use Rattle.dnw_zone_values.specs.Octets.{IsHexText, IsBase64Text, IsSaltText};
+ghost use Rattle.std.specs.Prelude.{◌≡◌, ◌≤◌, ◌+◌, ℕ, List, true, length, IfOk, MatchOption};
+ghost use Rattle.dnw_data.specs.declared.kind.Shown.TheVariants.{Tag, Hex, Base32Hex};
+ghost use Rattle.dnw_zone_values.specs.Inside.Steps.{PushesOne};
+ghost use Rattle.dnw_zone_values.specs.Octets.{IsHexText, IsBase64Text};
 ghost use Rattle.dnw_zone_values.specs.Strings.{IsStringText, IsLongText};
-ghost use Rattle.dnw_zone_values.specs.Tags.{IsTagText};
-ghost use Rattle.dnw_zone_values.specs.Base32.{IsHashText};
 ghost use Rattle.dnw_zone_values.specs.Pairs.{IsPairsText};
-ghost use Rattle.dnw_zone_data.specs.Parsing.{SpellsShown};
+ghost use Rattle.dnw_zone_data.specs.Parsing.{SpellsOctets, SpellsShown};
 
 use dnw_data::kind::Shown;
 use dnw_zone_values::base32::parse_hash;
@@ -18,118 +17,121 @@ use dnw_zone_values::tag::parse_tag;
 use std::alloc::{AllocError, Global};
 use std::str;
 
-/// Returns the octets that a word writes, if any.
-pub(crate) fn spelled(
-    alloc: Global,
-    shown: Shown,
-    word: &[u8],
-) -> Result<Option<Vec<u8>>, AllocError>
-    ensures is { IfOk result (λ x. MatchOption x ((own : List ℕ) → ¬ (SpellsShown shown word.now own)) (λ own. SpellsShown shown word.now own.items)) }
-    ensures few { IfOk result (λ x. IfSome x (λ own. length own.items ≤ 255)) }
+/// Appends the octets that a word writes. Returns `false` if it writes none; some may be appended then.
+pub(crate) fn push_spelled(shown: Shown, word: &[u8], out: &mut Vec<u8>) -> Result<bool, AllocError>
+    ensures is { IfOk result (PushesOne (SpellsShown shown word.now) out.old.items out.new.items) }
+    ensures few { IfOk result (λ is. is ≡ true → length out.new.items ≤ length out.old.items + 255) }
 {
     match shown {
-        Shown::Text => string_of(alloc, word),
-        Shown::Tag => tag_of(alloc, word),
-        Shown::Hex => salt_of(alloc, word),
-        Shown::Base32Hex => hash_of(alloc, word),
-        Shown::Base64 | Shown::Other => Ok(None),
+        Shown::Text => push_string(word, out),
+        Shown::Tag => push_tag(word, out),
+        Shown::Hex => push_salt(word, out),
+        Shown::Base32Hex => push_hash(word, out),
+        Shown::Base64 | Shown::Other => Ok(false),
     }
 }
 
-/// Returns the octets of a string, if the word is one.
-pub(crate) fn string_of(alloc: Global, word: &[u8]) -> Result<Option<Vec<u8>>, AllocError>
-    ensures is { IfOk result (λ x. MatchOption x ((own : List ℕ) → ¬ (IsStringText word.now own)) (λ own. IsStringText word.now own.items)) }
-    ensures few { IfOk result (λ x. IfSome x (λ own. length own.items ≤ 255)) }
+/// Appends the octets of a string, if the word is one.
+pub(crate) fn push_string(word: &[u8], out: &mut Vec<u8>) -> Result<bool, AllocError>
+    ensures is { IfOk result (PushesOne (IsStringText word.now) out.old.items out.new.items) }
+    ensures few { IfOk result (λ is. is ≡ true → length out.new.items ≤ length out.old.items + 255) }
 {
-    let mut own = Vec::new(alloc);
-    match parse_string(word, &mut own) {
-        Ok(()) => Ok(Some(own)),
+    match parse_string(word, out) {
+        Ok(()) => Ok(true),
         Err(FieldTextError::Memory) => Err(AllocError),
-        Err(_) => Ok(None),
+        Err(_) => Ok(false),
     }
 }
 
-/// Returns the octets of a tag, if the word is one.
-fn tag_of(alloc: Global, word: &[u8]) -> Result<Option<Vec<u8>>, AllocError>
-    ensures is { IfOk result (λ x. MatchOption x ((own : List ℕ) → ¬ (IsUtf8 word.now × IsTagText word.now own)) (λ own. IsUtf8 word.now × IsTagText word.now own.items)) }
-    ensures few { IfOk result (λ x. IfSome x (λ own. length own.items ≤ 255)) }
-{
-    let Ok(text) = str::from_utf8(word) else {
-        return Ok(None);
-    };
-    let mut own = Vec::new(alloc);
-    match parse_tag(text, &mut own) {
-        Ok(()) => Ok(Some(own)),
-        Err(FieldTextError::Memory) => Err(AllocError),
-        Err(_) => Ok(None),
-    }
-}
-
-/// Returns the octets of a salt, if the word is one.
-fn salt_of(alloc: Global, word: &[u8]) -> Result<Option<Vec<u8>>, AllocError>
-    ensures is { IfOk result (λ x. MatchOption x ((own : List ℕ) → ¬ (IsUtf8 word.now × IsSaltText word.now own)) (λ own. IsUtf8 word.now × IsSaltText word.now own.items)) }
-    ensures few { IfOk result (λ x. IfSome x (λ own. length own.items ≤ 255)) }
+/// Appends the octets of a tag, if the word is one.
+fn push_tag(word: &[u8], out: &mut Vec<u8>) -> Result<bool, AllocError>
+    ensures is { IfOk result (PushesOne (SpellsShown Tag word.now) out.old.items out.new.items) }
+    ensures few { IfOk result (λ is. is ≡ true → length out.new.items ≤ length out.old.items + 255) }
 {
     let Ok(text) = str::from_utf8(word) else {
-        return Ok(None);
+        return Ok(false);
     };
-    let mut own = Vec::new(alloc);
-    match parse_salt(text, &mut own) {
-        Ok(()) => Ok(Some(own)),
+    match parse_tag(text, out) {
+        Ok(()) => Ok(true),
         Err(FieldTextError::Memory) => Err(AllocError),
-        Err(_) => Ok(None),
+        Err(_) => Ok(false),
     }
 }
 
-/// Returns the octets of a hashed name, if the word is one.
-fn hash_of(alloc: Global, word: &[u8]) -> Result<Option<Vec<u8>>, AllocError>
-    ensures is { IfOk result (λ x. MatchOption x ((own : List ℕ) → ¬ (IsUtf8 word.now × IsHashText word.now own)) (λ own. IsUtf8 word.now × IsHashText word.now own.items)) }
-    ensures few { IfOk result (λ x. IfSome x (λ own. length own.items ≤ 255)) }
+/// Appends the octets of a salt, if the word is one.
+fn push_salt(word: &[u8], out: &mut Vec<u8>) -> Result<bool, AllocError>
+    ensures is { IfOk result (PushesOne (SpellsShown Hex word.now) out.old.items out.new.items) }
+    ensures few { IfOk result (λ is. is ≡ true → length out.new.items ≤ length out.old.items + 255) }
 {
     let Ok(text) = str::from_utf8(word) else {
-        return Ok(None);
+        return Ok(false);
     };
-    let mut own = Vec::new(alloc);
-    match parse_hash(text, &mut own) {
-        Ok(()) => Ok(Some(own)),
+    match parse_salt(text, out) {
+        Ok(()) => Ok(true),
         Err(FieldTextError::Memory) => Err(AllocError),
-        Err(_) => Ok(None),
+        Err(_) => Ok(false),
     }
 }
 
-/// Returns the octets of a text of any length, if the word is one.
-pub(crate) fn text_of(alloc: Global, word: &[u8]) -> Result<Option<Vec<u8>>, AllocError>
-    ensures { IfOk result (λ x. MatchOption x ((own : List ℕ) → ¬ (IsLongText word.now own)) (λ own. IsLongText word.now own.items)) }
+/// Appends the octets of a hashed name, if the word is one.
+fn push_hash(word: &[u8], out: &mut Vec<u8>) -> Result<bool, AllocError>
+    ensures is { IfOk result (PushesOne (SpellsShown Base32Hex word.now) out.old.items out.new.items) }
+    ensures few { IfOk result (λ is. is ≡ true → length out.new.items ≤ length out.old.items + 255) }
 {
-    let mut own = Vec::new(alloc);
-    match parse_text(word, &mut own) {
-        Ok(()) => Ok(Some(own)),
+    let Ok(text) = str::from_utf8(word) else {
+        return Ok(false);
+    };
+    match parse_hash(text, out) {
+        Ok(()) => Ok(true),
         Err(FieldTextError::Memory) => Err(AllocError),
-        Err(_) => Ok(None),
+        Err(_) => Ok(false),
     }
 }
 
-/// Returns the octets that a text writes in hexadecimal, if any.
-pub(crate) fn hex_of(alloc: Global, text: &str) -> Result<Option<Vec<u8>>, AllocError>
-    ensures { IfOk result (λ x. MatchOption x ((own : List ℕ) → ¬ (IsHexText text.now own)) (λ own. IsHexText text.now own.items)) }
+/// Appends the octets of a text of any length, if the word is one.
+pub(crate) fn push_text(word: &[u8], out: &mut Vec<u8>) -> Result<bool, AllocError>
+    ensures { IfOk result (PushesOne (IsLongText word.now) out.old.items out.new.items) }
 {
-    let mut own = Vec::new(alloc);
-    match parse_hexadecimal(text, &mut own) {
-        Ok(()) => Ok(Some(own)),
+    match parse_text(word, out) {
+        Ok(()) => Ok(true),
         Err(FieldTextError::Memory) => Err(AllocError),
-        Err(_) => Ok(None),
+        Err(_) => Ok(false),
     }
 }
 
-/// Returns the octets that a text writes in base 64, if any.
-pub(crate) fn base64_of(alloc: Global, text: &str) -> Result<Option<Vec<u8>>, AllocError>
-    ensures { IfOk result (λ x. MatchOption x ((own : List ℕ) → ¬ (IsBase64Text text.now own)) (λ own. IsBase64Text text.now own.items)) }
+/// Appends the octets that a text writes in a spelling of octets up to the end, if it does.
+pub(crate) fn push_octets(shown: Shown, text: &[u8], out: &mut Vec<u8>) -> Result<bool, AllocError>
+    ensures { IfOk result (PushesOne (SpellsOctets shown text.now) out.old.items out.new.items) }
 {
-    let mut own = Vec::new(alloc);
-    match parse_base64(text, &mut own) {
-        Ok(()) => Ok(Some(own)),
+    let Ok(text) = str::from_utf8(text) else {
+        return Ok(false);
+    };
+    match shown {
+        Shown::Hex => push_hexadecimal(text, out),
+        Shown::Base64 => push_base64(text, out),
+        Shown::Text | Shown::Tag | Shown::Base32Hex | Shown::Other => Ok(false),
+    }
+}
+
+/// Appends the octets that a text writes in hexadecimal, if it does.
+fn push_hexadecimal(text: &str, out: &mut Vec<u8>) -> Result<bool, AllocError>
+    ensures { IfOk result (PushesOne (IsHexText text.now) out.old.items out.new.items) }
+{
+    match parse_hexadecimal(text, out) {
+        Ok(()) => Ok(true),
         Err(FieldTextError::Memory) => Err(AllocError),
-        Err(_) => Ok(None),
+        Err(_) => Ok(false),
+    }
+}
+
+/// Appends the octets that a text writes in base 64, if it does.
+fn push_base64(text: &str, out: &mut Vec<u8>) -> Result<bool, AllocError>
+    ensures { IfOk result (PushesOne (IsBase64Text text.now) out.old.items out.new.items) }
+{
+    match parse_base64(text, out) {
+        Ok(()) => Ok(true),
+        Err(FieldTextError::Memory) => Err(AllocError),
+        Err(_) => Ok(false),
     }
 }
 

@@ -1,6 +1,6 @@
 //! How a text is split into words.
 ghost use Rattle.std.specs.Prelude.{◌≡◌, ◌≤◌, ◌+◌, ◌==◌, ◌&&◌, not, length, false, IfOk};
-ghost use Rattle.std.specs.List.{filter};
+ghost use Rattle.std.specs.List.{filter, list_all};
 ghost use Rattle.dnw_zone_values.specs.Strings.{quote};
 ghost use Rattle.dnw_zone_data.specs.Words.{after_param, after_spaces, after_word, begins_with_quote, is_asterisk, is_word_end, escaped_after, is_no_space, is_space, param_len, param_word, plain_len, quoted_len, word, word_len};
 
@@ -89,14 +89,19 @@ fn plain_len(text: &[u8]) -> usize
     ensures is { result ≡ plain_len false text.now }
     ensures within { result ≤ length text.now }
 {
-    let mut escaped = false;
     let mut left = text;
     while let Some((first, rest)) = left.split_first() {
-        if ends_plain(escaped, *first) {
+        if is_word_end(*first) {
             return text.len() - left.len();
         }
-        escaped = escaped_after(escaped, *first);
-        left = rest;
+        if *first == b'\\' {
+            let Some((_, after)) = rest.split_first() else {
+                return text.len();
+            };
+            left = after;
+        } else {
+            left = rest;
+        }
     }
     text.len()
 }
@@ -126,13 +131,6 @@ fn is_word_end(c: u8) -> bool
     is_space(c) || c == b'"' || c == b'(' || c == b')' || c == b';'
 }
 
-/// Returns `true` if a character, after a backslash or not, ends a word that is not in quotes.
-fn ends_plain(escaped: bool, c: u8) -> bool
-    ensures { result ≡ (not escaped && is_word_end c) }
-{
-    !escaped && is_word_end(c)
-}
-
 /// Returns `true` if a character, after a backslash or not, is the quote at the end of a word.
 fn is_end_quote(escaped: bool, c: u8) -> bool
     ensures { result ≡ (not escaped && (c == quote)) }
@@ -155,6 +153,13 @@ pub fn is_asterisk(word: &[u8]) -> bool
         [c] => *c == b'*',
         _ => false,
     }
+}
+
+/// Returns `true` if no character of a text is white space.
+pub(crate) fn has_no_spaces(text: &[u8]) -> bool
+    ensures { result ≡ list_all is_no_space text.now }
+{
+    text.iter().all(|c| !is_space(*c))
 }
 
 /// Returns the characters of a text that are no white space.

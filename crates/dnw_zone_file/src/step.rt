@@ -6,7 +6,7 @@ ghost use Rattle.dnw_zone_file.specs.Steps.{IsStepAt, IsEntryFound, IsStep, Move
 use crate::context::Context;
 use crate::entry::{Entry, entry_of};
 use crate::error::{ZoneError, ZoneRule};
-use dnw_zone_record::scan::{Ending, scan};
+use dnw_zone_record::scan::{Ending, plain_line, scan};
 use dnw_zone_record::word_error::WordRule;
 use std::alloc::Global;
 
@@ -35,8 +35,8 @@ pub struct Step {
 /// with more after it.
 ///
 /// What the entry says for later ones goes into the context, which is unchanged if there is none. After an error the next entry is
-/// at the next line. The line of the entry is put in place of `line`, whose memory is used again. Offsets in entries and errors are
-/// counted from the beginning of the text.
+/// at the next line. A line with comments or parentheses is put in place of `line`, whose memory is used again. Offsets in entries and
+/// errors are counted from the beginning of the text.
 pub fn take_entry(
     alloc: Global,
     context: &mut Context,
@@ -54,6 +54,9 @@ pub fn take_entry(
             used: 0,
             found: Ok(found),
         };
+    }
+    if let Some((own, ending)) = plain_line(text) {
+        return ended(alloc, context, text, more, own, ending);
     }
     let Ok(ending) = scan(text, line) else {
         return Step {

@@ -4,3 +4,4 @@ mod RecordWords
 pub mod EntryLines
 pub mod Runs
 pub mod Windows
+pub mod DataLengths

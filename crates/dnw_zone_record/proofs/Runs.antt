@@ -1,11 +1,13 @@
 -- Octets that are kept with no change of place are the line's next ones, all at once.
-use Rattle.std.proofs.Common.{◌≡◌, ℕ, Bool, true, false, List, [], ◌∷◌, ◌++◌, length, take, drop, refl, sym, ap, ◌∙◌, append_assoc, arith}
+use Rattle.std.proofs.Common.{◌≡◌, ℕ, ◌-◌, Bool, true, false, List, [], ◌∷◌, ◌++◌, length, take, drop, refl, sym, ap, ◌∙◌, append_assoc, length-append, arith}
 use Rattle.std.proofs.lemmas.Bool.Decides.{nat_tests}
-use Rattle.std.proofs.lemmas.List.{append-nil}
+use Rattle.std.proofs.lemmas.List.{append-nil, take-append-drop, take_at}
 use Rattle.dnw_zone_record.specs.declared.scan.Place.{Place}
 use Rattle.dnw_zone_record.specs.declared.scan.Place.TheVariants.{Words, Escaped, Quoted, QuotedEscaped, Comment}
+use Rattle.dnw_zone_record.specs.declared.scan.Ending.{Ending}
+use Rattle.dnw_zone_record.specs.declared.scan.Octet.{Octet}
 use Rattle.dnw_zone_record.specs.declared.scan.Octet.TheVariants.{Kept}
-use Rattle.dnw_zone_record.specs.Lines.{end_at, is_kept, kept_len, line_from, on_octet, added_octet}
+use Rattle.dnw_zone_record.specs.Lines.{end_at, is_kept, kept_len, line_from, line_of, on_octet, added_octet}
 
 pub kept_octet : (place : Place) (grouped : Bool) (c : ℕ) → is_kept place c ≡ true → on_octet place grouped c ≡ Kept place
 kept_octet Words grouped c is = rw is refl
@@ -45,3 +47,34 @@ ended_run place so line grouped text run rest is-run is-rest is-line none =
     kept_run place so grouped text
     ∙ ap (λ (x : List ℕ). line_from (so ++ take (kept_len place text) text) place grouped x) left
     ∙ ap (λ (x : List ℕ). (x, end_at place grouped)) all
+
+-- such octets of a line that is a part of the text
+pub plain_run : (place : Place) (text so left others : List ℕ) → so ++ left ≡ text → line_from so place false left ≡ line_of text
+    → others ≡ drop (kept_len place left) left → (more : List ℕ) × (more ++ others ≡ text) × (line_from more place false others ≡ line_of text)
+plain_run place text so left others whole is e = (
+  so ++ take (kept_len place left) left,
+  rw e (append_assoc so (take (kept_len place left) left) (drop (kept_len place left) left)
+      ∙ ap (λ (x : List ℕ). so ++ x) (take-append-drop (kept_len place left) left) ∙ whole),
+  rw e (sym (kept_run place so false left) ∙ is),
+)
+
+-- and one more that is kept
+pub plain_step : (place next : Place) (text so others rest : List ℕ) (c : ℕ) → so ++ others ≡ text → line_from so place false others ≡ line_of text
+    → others ≡ c ∷ rest → on_octet place false c ≡ Kept next
+    → ((so ++ c ∷ []) ++ rest ≡ text) × (line_from (so ++ c ∷ []) next false rest ≡ line_of text)
+plain_step place next text so others rest c whole is e octet = (
+  append_assoc so (c ∷ []) rest ∙ ap (λ (x : List ℕ). so ++ x) (sym e) ∙ whole,
+  let here : line_from so place false others ≡ line_from (so ++ c ∷ []) next false rest = rw (e, octet) refl in sym here ∙ is,
+)
+
+-- the line is what is before the octet that ends it
+pub plain_ended : (place : Place) (text so others rest front : List ℕ) (c : ℕ) (octet : Octet) (ending : Ending) → so ++ others ≡ text
+    → line_from so place false others ≡ line_of text → others ≡ c ∷ rest → on_octet place false c ≡ octet
+    → (added_octet octet c (λ o next. line_from (so ++ o ∷ []) next false rest) (λ next within. line_from (so ++ 32 ∷ []) next within rest)
+        (λ why. (so, why)) ≡ (so, ending))
+    → front ≡ take (length text - length others) text → line_of text ≡ (front, ending)
+plain_ended place text so others rest front c octet ending whole is e on ends at =
+    let here : line_from so place false others ≡ (so, ending) = rw (e, on) ends in
+    let size : length so ≡ length text - length others = omega (arith, ap length whole, length-append so others) in
+    let first : front ≡ so = at ∙ ap (take (length text - length others)) (sym whole) ∙ take_at so others (length text - length others) size in
+    sym is ∙ here ∙ ap (λ (x : List ℕ). (x, ending)) (sym first)

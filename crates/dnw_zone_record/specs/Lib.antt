@@ -3,3 +3,4 @@ pub mod RecordEntries
 pub mod RecordTextLaws
 pub mod Lines
 pub mod LineLaws
+pub mod Inside

@@ -1,13 +1,14 @@
 //! Records as entries of master files, with comments and parentheses (RFC 1035, section 5.1).
-ghost use Rattle.std.specs.Prelude.{◌≡◌, IfOk, IfErr};
+ghost use Rattle.std.specs.Prelude.{◌≡◌, ◌≤◌, length, IfOk, IfErr};
 ghost use Rattle.std.specs.Option.{option_copied};
 ghost use Rattle.dnw_zone_record.specs.declared.entry.RecordEntryError.TheVariants.{Line};
 ghost use Rattle.dnw_zone_record.specs.declared.record_line.RecordLineError.{RecordLineError};
+ghost use Rattle.dnw_zone_record.specs.Lines.{line_of};
 ghost use Rattle.dnw_zone_record.specs.RecordEntries.{FailsRecordEntry, IsRecordEntry, is_blank_rest};
 ghost use Rattle.dnw_zone_record.specs.RecordLines.{FailsRecordLine, IsRecordLine};
 
 use crate::record_line::{RecordLineError, record_of};
-use crate::scan::{Ending, scan};
+use crate::scan::{Ending, plain_line, scan};
 use crate::word_error::WordRule;
 use dnw_name::name::Name;
 use dnw_zone_data::words::{after_spaces, split_word};
@@ -49,17 +50,36 @@ pub fn parse_entry(
     ensures ok { IfOk result (λ own. IsRecordEntry (option_copied origin.entry) text.now own.items) }
     ensures err { IfErr result (FailsRecordEntry (option_copied origin.entry) text.now) }
 {
+    if let Some((line, ending)) = plain_line(text) {
+        return ended_record(alloc, text, line, ending, origin);
+    }
     let mut line = Vec::new(alloc);
     let Ok(ending) = scan(text, &mut line) else {
         return Err(RecordEntryError::Memory);
     };
+    ended_record(alloc, text, line.as_slice(), ending, origin)
+}
+
+/// Returns the octets of the record that a text is, of which this is the line and how it ends.
+fn ended_record(
+    alloc: Global,
+    text: &[u8],
+    line: &[u8],
+    ending: Ending,
+    origin: Option<&Name>,
+) -> Result<Vec<u8>, RecordEntryError>
+    requires line { line_of text.now ≡ (line.now, ending) }
+    requires within { length line.now ≤ length text.now }
+    ensures ok { IfOk result (λ own. IsRecordEntry (option_copied origin.entry) text.now own.items) }
+    ensures err { IfErr result (FailsRecordEntry (option_copied origin.entry) text.now) }
+{
     let offset = line.len();
     match ending {
         Ending::Cut(rule) | Ending::Wrong(rule) => Err(RecordEntryError::Words { offset, rule }),
         Ending::Line if !is_blank_rest(&text[offset..]) => Err(RecordEntryError::MoreEntries {
             offset,
         }),
-        Ending::Line | Ending::Text => line_record(alloc, line.as_slice(), origin),
+        Ending::Line | Ending::Text => line_record(alloc, line, origin),
     }
 }
 

@@ -1,11 +1,13 @@
 //! Records as lines of master files (RFC 1035, section 5.1), printed and parsed.
-ghost use Rattle.std.specs.Prelude.{◌≡◌, ◌≤◌, ℕ, List, length, IfOk, IfErr, IfSome, MatchOption, string_bytes};
+ghost use Rattle.std.specs.Prelude.{◌≡◌, ◌≤◌, ◌+◌, ◌-◌, ℕ, List, [], ◌∷◌, ◌++◌, length, take, drop, IfOk, IfErr, IfSome, MatchOption, string_bytes};
+ghost use Rattle.std.specs.Int.{w16, to_be_bytes};
 ghost use Rattle.std.specs.Option.{option_copied};
 ghost use Rattle.dnw_base.specs.declared.dns_class.DNSClass.{DNSClass};
 ghost use Rattle.dnw_base.specs.declared.record_type.RecordType.{RecordType};
 ghost use Rattle.dnw_zone_data.specs.DataTexts.{IsDataText};
 ghost use Rattle.dnw_base.specs.Limits.{max_data};
-ghost use Rattle.dnw_zone_record.specs.RecordLines.{FailsAfterOwner, FailsDataOf, FailsHead, FailsRecordLine, FailsRecordOf, HasClassNext, HasTtlAndClass, IsAfterOwner, IsClassWord, IsDataOf, IsHead, IsRecordLine, IsRecordOf, IsTtlWord, IsTypeWord, LacksTtl, LacksTtlWord, LacksTypeWord, after_next_word, line_octets, next_offset, next_word, record_line};
+ghost use Rattle.dnw_zone_record.specs.RecordLines.{FailsAfterOwner, FailsDataOf, FailsHead, FailsRecordLine, FailsRecordOf, HasClassNext, HasTtlAndClass, IsAfterOwner, IsClassWord, IsDataOf, IsHead, IsRecordLine, IsRecordOf, IsTtlWord, IsTypeWord, LacksTtl, LacksTtlWord, LacksTypeWord, after_next_word, next_offset, next_word, record_line};
+ghost use Rattle.dnw_zone_record.specs.Inside.Fronts.{front_octets};
 
 use dnw_base::dns_class::DNSClass;
 use dnw_base::limits::MAX_DATA;
@@ -13,7 +15,7 @@ use dnw_base::record_type::RecordType;
 use dnw_name::name::Name;
 use dnw_name_form::form::WireForm;
 use dnw_record::record_ref::RecordRef;
-use dnw_zone_data::data_text::{data_text, parse_in_line};
+use dnw_zone_data::data_text::{append_in_line, data_text};
 use dnw_zone_data::error::DataTextError;
 use dnw_zone_data::name::{read_name, write_name};
 use dnw_zone_data::number_form::period_seconds;
@@ -64,6 +66,9 @@ impl From<AllocError> for RecordLineError {
         RecordLineError::Memory
     }
 }
+
+/// The octets that a record has room for at first. Most have fewer.
+const FIRST_ROOM: usize = 256;
 
 /// What a line has between the owner and the data.
 #[derive(Clone, Copy)]
@@ -155,8 +160,18 @@ fn after_owner(
     ensures err { IfErr result (FailsAfterOwner (option_copied origin.entry) len left.now) }
 {
     let (head, text) = head_of(len, left)?;
-    let own = data_of(alloc, head.class, head.record_type, len, text, origin)?;
-    let octets = octets_of(alloc, owner, head, own.as_slice())?;
+    let mut octets = front_octets(alloc, owner, head)?;
+    let start = octets.len();
+    append_data(
+        alloc,
+        head.class,
+        head.record_type,
+        len,
+        text,
+        origin,
+        &mut octets,
+    )?;
+    put_data_len(&mut octets, start);
     Ok(octets)
 }
 
@@ -297,9 +312,29 @@ pub fn data_of(
     ensures ok { IfOk result (λ own. IsDataOf (option_copied origin.entry) class record_type text.now own.items) }
     ensures err { IfErr result (FailsDataOf (option_copied origin.entry) class record_type len text.now) }
 {
-    match parse_in_line(alloc, class, record_type, len, text, origin) {
-        Ok(own) if own.len() <= MAX_DATA => Ok(own),
-        Ok(_) => Err(RecordLineError::TooLong {
+    let mut own = Vec::with_capacity(alloc, FIRST_ROOM)?;
+    append_data(alloc, class, record_type, len, text, origin, &mut own)?;
+    Ok(own)
+}
+
+/// Appends the octets of the data that a text is. After an error some may be appended.
+fn append_data(
+    alloc: Global,
+    class: DNSClass,
+    record_type: RecordType,
+    len: usize,
+    text: &[u8],
+    origin: Option<&Name>,
+    out: &mut Vec<u8>,
+) -> Result<(), RecordLineError>
+    requires within { length text.now ≤ len }
+    ensures ok { IfOk result (λ _. (own : List ℕ) × IsDataOf (option_copied origin.entry) class record_type text.now own × (out.new.items ≡ out.old.items ++ own)) }
+    ensures err { IfErr result (FailsDataOf (option_copied origin.entry) class record_type len text.now) }
+{
+    let start = out.len();
+    match append_in_line(alloc, class, record_type, len, text, origin, out) {
+        Ok(()) if out.len() - start <= MAX_DATA => Ok(()),
+        Ok(()) => Err(RecordLineError::TooLong {
             offset: len - after_spaces(text).len(),
         }),
         Err(DataTextError::Memory) => Err(RecordLineError::Memory),
@@ -307,22 +342,29 @@ pub fn data_of(
     }
 }
 
-/// Returns the octets of a record.
-fn octets_of(
-    alloc: Global,
-    owner: &WireForm,
-    head: LineHead,
-    own: &[u8],
-) -> Result<Vec<u8>, AllocError>
-    requires { length own.now ≤ max_data }
-    ensures { IfOk result (λ octets. octets.items ≡ line_octets owner.now head own.now) }
+/// Returns the octets of a record before its data, with zeros for their length.
+fn front_octets(alloc: Global, owner: &WireForm, head: LineHead) -> Result<Vec<u8>, AllocError>
+    ensures { IfOk result (λ octets. octets.items ≡ front_octets owner.now head ++ 0 ∷ 0 ∷ []) }
 {
-    let mut octets = Vec::new(alloc);
+    let mut octets = Vec::with_capacity(alloc, FIRST_ROOM)?;
     octets.extend_from_slice(owner.as_bytes())?;
     octets.extend_from_slice(&u16::from(head.record_type).to_be_bytes())?;
     octets.extend_from_slice(&u16::from(head.class).to_be_bytes())?;
     octets.extend_from_slice(&head.ttl.to_be_bytes())?;
-    octets.extend_from_slice(&(own.len() as u16).to_be_bytes())?;
-    octets.extend_from_slice(own)?;
+    octets.extend_from_slice(&[0, 0])?;
     Ok(octets)
+}
+
+/// Puts the number of octets from an offset on into the two before it.
+fn put_data_len(octets: &mut Vec<u8>, start: usize)
+    requires front { 2 ≤ start }
+    requires within { start ≤ length octets.old.items }
+    requires few { length octets.old.items ≤ start + max_data }
+    ensures { octets.new.items ≡ take (start - 2) octets.old.items ++ to_be_bytes w16 (length octets.old.items - start) ++ drop start octets.old.items }
+{
+    let len = (octets.len() - start) as u16;
+    let [high, low] = len.to_be_bytes();
+    let own = octets.as_mut_slice();
+    own[start - 2] = high;
+    own[start - 1] = low;
 }

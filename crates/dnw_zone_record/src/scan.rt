@@ -1,5 +1,5 @@
 //! Entries of master files.
-ghost use Rattle.std.specs.Prelude.{◌≡◌, ◌≢◌, ◌+◌, ◌≤◌, ◌<◌, length, take, drop, IfOk};
+ghost use Rattle.std.specs.Prelude.{◌≡◌, ◌≢◌, ◌+◌, ◌-◌, ◌≤◌, ◌<◌, length, take, drop, IfOk, IfSome};
 ghost use Rattle.dnw_zone_record.specs.declared.scan.Ending.TheVariants.{Line, Text};
 ghost use Rattle.dnw_zone_record.specs.Lines.{end_at, is_kept, is_plain_octet, is_quoted, kept_len, at_line_end, line_of, of_quoted, of_special, on_octet};
 
@@ -84,6 +84,39 @@ pub fn scan(text: &[u8], line: &mut Vec<u8>) -> Result<Ending, AllocError>
         }
         left = rest;
     }
+}
+
+/// Returns the line of the entry that a text begins with, as `scan` puts it, if it is a part of the text: it has no comment and no
+/// parenthesis. So most lines are not copied.
+pub fn plain_line(text: &[u8]) -> Option<(&[u8], Ending)>
+    ensures line { IfSome result (λ r. line_of text.now ≡ (r.0.now, r.1)) }
+    ensures within { IfSome result (λ r. length r.0.now ≤ length text.now) }
+    ensures ended { IfSome result (λ r. r.1 ≡ Line → length r.0.now < length text.now) }
+    ensures all { IfSome result (λ r. r.1 ≡ Text → length r.0.now ≡ length text.now) }
+{
+    let mut place = Place::Words;
+    let mut left = text;
+    'runs: loop {
+        let (_, others) = split_kept(place, left);
+        let Some((c, rest)) = others.split_first() else {
+            return Some((text, end_of(place, false)));
+        };
+        match octet_of(place, false, *c) {
+            Octet::Kept(next) => place = next,
+            Octet::Blank(..) => return None,
+            Octet::End => return Some((before(text, others), Ending::Line)),
+            Octet::Wrong(rule) => return Some((before(text, others), Ending::Wrong(rule))),
+        }
+        left = rest;
+    }
+}
+
+/// Returns what is before the end of a text.
+fn before(text: &[u8], end: &[u8]) -> &[u8]
+    requires { length end.now ≤ length text.now }
+    ensures { result.now ≡ take (length text.now - length end.now) text.now }
+{
+    &text[..text.len() - end.len()]
 }
 
 /// Splits a text after the octets that it begins with and that are kept with no change of place.

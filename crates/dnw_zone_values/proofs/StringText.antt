@@ -1,22 +1,86 @@
 -- Strings, octet by octet.
-use Rattle.std.proofs.Common.{◌≡◌, ℕ, suc, ◌*◌, ◌/◌, ◌%◌, inl, inr, ◌+◌, ◌-◌, ◌≤◌, ◌<◌, Bool, true, false, ◌==◌, ◌&&◌, List, [], ◌∷◌, ◌++◌, length, Option, Some, None, refl, sym, ap, ◌∙◌, arith, append_assoc, length-append}
-use Rattle.dnw_zone_values.specs.Strings.{quote, backslash, Plain, octets_from, with_octet, octet_text, string_text, IsString, IsText, IsStringText, IsLongText}
-use Rattle.std.specs.Prelude.{flat_map, nat_le}
+use Rattle.std.proofs.Common.{◌≡◌, ◌≢◌, ◌⊎◌, take, drop, ℕ, suc, ◌*◌, ◌/◌, ◌%◌, inl, inr, ◌+◌, ◌-◌, ◌≤◌, ◌<◌, Bool, true, false, ◌==◌, ◌&&◌, List, [], ◌∷◌, ◌++◌, length, Option, Some, None, refl, sym, ap, ◌∙◌, arith, append_assoc, append-nil, length-append}
+use Rattle.dnw_zone_values.specs.Strings.{quote, backslash, Plain, at_end, octets_from, with_octet, octet_text, string_text, IsString, IsText, IsStringText, IsLongText}
+use Rattle.std.specs.Prelude.{flat_map, nat_le, not}
 use Rattle.std.specs.Char.{is_ascii_digit}
 use Rattle.std.proofs.lemmas.Bool.{cases_eq, cases_Bool, ne_eqb, lt-ltb}
 use Rattle.dnw_zone_values.specs.Octets.{IsOctets}
 use Rattle.dnw_zone_values.specs.Spelling.{ComesBack}
-use Rattle.dnw_zone_values.specs.Inside.Takes.{after, octets_at, IsNoText}
+use Rattle.dnw_zone_values.specs.Inside.Takes.{after, is_special, octets_at, plain_len, IsNoText, Pushes}
 
 -- one octet more
 pub after_more : (found : List ℕ) (o : ℕ) (octets : Option (List ℕ)) → after found (with_octet o octets) ≡ after (found ++ o ∷ []) octets
 after_more found o None = refl
 after_more found o (Some own) = ap Some (sym (append_assoc found (o ∷ []) own))
 
+none_more : (octets : Option (List ℕ)) → octets ≡ after [] octets
+none_more None = refl
+none_more (Some own) = refl
+
+pub after_both : (found run : List ℕ) (octets : Option (List ℕ)) → after found (after run octets) ≡ after (found ++ run) octets
+after_both found run None = refl
+after_both found run (Some own) = ap Some (sym (append_assoc found run own))
+
+-- one octet that stands for itself
+plain_more : (quoted : Bool) (c : ℕ) (cs : List ℕ) → (c ≡ quote) ⊎ (c ≢ quote) → (c ≡ backslash) ⊎ (c ≢ backslash)
+    → octets_from quoted Plain cs ≡ after (take (plain_len cs) cs) (octets_from quoted Plain (drop (plain_len cs) cs))
+    → octets_from quoted Plain (c ∷ cs)
+    ≡ after (take (plain_len (c ∷ cs)) (c ∷ cs)) (octets_from quoted Plain (drop (plain_len (c ∷ cs)) (c ∷ cs)))
+plain_more quoted c cs (inl e) other so = rw e (none_more (octets_from quoted Plain (quote ∷ cs)))
+plain_more quoted c cs (inr no_quote) (inl e) so = rw e (none_more (octets_from quoted Plain (backslash ∷ cs)))
+plain_more true c cs (inr no_quote) (inr plain) so =
+    let a = ne_eqb c quote no_quote in
+    let b = ne_eqb c backslash plain in
+    rw (a, b) (ap (with_octet c) so ∙ after_both (c ∷ []) (take (plain_len cs) cs) (octets_from true Plain (drop (plain_len cs) cs)))
+plain_more false c cs (inr no_quote) (inr plain) so =
+    let a = ne_eqb c quote no_quote in
+    let b = ne_eqb c backslash plain in
+    rw (a, b) (ap (with_octet c) so ∙ after_both (c ∷ []) (take (plain_len cs) cs) (octets_from false Plain (drop (plain_len cs) cs)))
+
+-- more octets than there may be
+pub too_long : (found : List ℕ) (octets : Option (List ℕ)) (max : ℕ) → max < length found → IsNoText max (after found octets)
+too_long found None max many = tt
+too_long found (Some own) max many = omega (arith, length-append found own)
+
 -- one octet too many
 pub too_many : (found : List ℕ) (o : ℕ) (octets : Option (List ℕ)) → (max : ℕ) → max ≤ length found → IsNoText max (after found (with_octet o octets))
 too_many found o None max full = tt
 too_many found o (Some own) max full = omega (arith, length-append found (o ∷ own))
+
+-- octets that stand for themselves
+pub plain_run : (quoted : Bool) (text : List ℕ)
+    → octets_from quoted Plain text ≡ after (take (plain_len text) text) (octets_from quoted Plain (drop (plain_len text) text))
+plain_run quoted [] = none_more (octets_from quoted Plain [])
+plain_run quoted (c ∷ cs) = plain_more quoted c cs (cases_eq c quote) (cases_eq c backslash) (plain_run quoted cs)
+
+-- the text goes on with octets that stand for themselves
+pub with_run : (quoted : Bool) (text left others found run : List ℕ) (len : ℕ)
+    → octets_from quoted Plain text ≡ after found (octets_from quoted Plain left) → len ≡ plain_len left → run ≡ take len left
+    → others ≡ drop len left → octets_from quoted Plain text ≡ after (found ++ run) (octets_from quoted Plain others)
+with_run quoted text left others found run len so_far is front back =
+    rw (front, back, is)
+    (so_far ∙ ap (after found) (plain_run quoted left)
+    ∙ after_both found (take (plain_len left) left) (octets_from quoted Plain (drop (plain_len left) left)))
+
+-- it ends, in quotes or not
+pub ended_text : (quoted : Bool) (octets : Option (List ℕ)) (found old new : List ℕ) (max : ℕ)
+    → octets ≡ after found (octets_from quoted Plain []) → length found ≤ max → new ≡ old ++ found → Pushes max octets old new (not quoted)
+ended_text true octets found old new max so_far few items = (rw so_far tt, (found, items))
+ended_text false octets found old new max so_far few items = (found, so_far ∙ ap Some (append-nil found), few, items)
+
+-- its quote is closed
+pub closed_text : (octets : Option (List ℕ)) (rest found old new : List ℕ) (max : ℕ) (empty : Bool)
+    → octets ≡ after found (at_end rest) → empty ≡ (length rest == 0) → length found ≤ max → new ≡ old ++ found
+    → Pushes max octets old new empty
+closed_text octets [] found old new max empty so_far is few items =
+    rw is (found, so_far ∙ ap Some (append-nil found), few, items)
+closed_text octets (c ∷ rest) found old new max empty so_far is few items =
+    let unclosed : empty ≡ false = is ∙ ne_eqb (suc (length rest)) 0 (λ e. omega arith) in rw unclosed (rw so_far tt, (found, items))
+
+-- it has no octet next
+pub no_octet : (octets : Option (List ℕ)) (found old new : List ℕ) (max : ℕ) → octets ≡ after found None → new ≡ old ++ found
+    → Pushes max octets old new false
+no_octet octets found old new max so_far items = (rw so_far tt, (found, items))
 
 -- the text goes on with an octet
 pub step : (quoted : Bool) (text left rest next found : List ℕ) (first o : ℕ)

@@ -4,7 +4,7 @@ ghost use Rattle.std.specs.Char.{is_ascii_digit};
 ghost use Rattle.std.specs.Fmt.{WritesOnOk};
 ghost use Rattle.dnw_zone_values.specs.Spelling.{Appends};
 ghost use Rattle.dnw_zone_values.specs.Strings.{quote, Plain, escape_text, octet_text, string_text, octets_from, with_octet, string_octets, IsTextWithin, IsStringText, IsLongText};
-ghost use Rattle.dnw_zone_values.specs.Inside.Takes.{octets_at, decimal_octet, KeepsFront, Pushes};
+ghost use Rattle.dnw_zone_values.specs.Inside.Takes.{octets_at, decimal_octet, is_special, plain_len, KeepsFront, Pushes};
 ghost use Rattle.dnw_zone_values.specs.declared.error.FieldTextError.TheVariants.{CharacterString as StringWanted, Text as TextWanted};
 
 use crate::error::FieldTextError;
@@ -131,6 +131,8 @@ fn push_text(text: &[u8], max: usize, octets: &mut Vec<u8>) -> Result<bool, Allo
 }
 
 /// Appends the octets of a text, after its opening quote if it is quoted. Returns `false` as `push_text` does.
+///
+/// Octets that stand for themselves are appended all at once.
 fn push_octets(
     text: &[u8],
     quoted: bool,
@@ -142,7 +144,16 @@ fn push_octets(
 {
     let mut count = 0;
     let mut left = text;
-    while let Some((first, rest)) = left.split_first() {
+    'runs: loop {
+        let (run, others) = left.split_at(plain_len(left));
+        if run.len() > max - count {
+            return Ok(false);
+        }
+        octets.extend_from_slice(run)?;
+        count += run.len();
+        let Some((first, rest)) = others.split_first() else {
+            return Ok(!quoted);
+        };
         if is_end(quoted, *first) {
             return Ok(rest.is_empty());
         }
@@ -156,7 +167,28 @@ fn push_octets(
         count += 1;
         left = rest;
     }
-    Ok(!quoted)
+}
+
+/// Returns the number of octets before the first quote or backslash: they stand for themselves, in quotes or not.
+fn plain_len(text: &[u8]) -> usize
+    ensures is { result ≡ plain_len text.now }
+    ensures within { result ≤ length text.now }
+{
+    let mut left = text;
+    while let Some((first, rest)) = left.split_first() {
+        if is_special(*first) {
+            return text.len() - left.len();
+        }
+        left = rest;
+    }
+    text.len()
+}
+
+/// Returns `true` for a quote and a backslash.
+fn is_special(c: u8) -> bool
+    ensures { result ≡ is_special c }
+{
+    c == b'"' || c == b'\\'
 }
 
 /// Returns `true` if a character is the quote that ends a quoted text.

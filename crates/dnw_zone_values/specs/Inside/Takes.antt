@@ -1,7 +1,7 @@
 -- Strings, octet by octet.
-use Rattle.std.specs.Prelude.{◌≡◌, ◌<◌, ◌≤◌, ℕ, ◌+◌, ◌-◌, ◌*◌, Bool, true, false, ◌&&◌, ◌==◌, nat_lt, if◌then◌else◌, ⊤, List, ◌++◌, length, Option, Some, None, option_map}
+use Rattle.std.specs.Prelude.{◌≡◌, ◌<◌, ◌≤◌, ℕ, suc, ◌+◌, ◌-◌, ◌*◌, Bool, true, false, ◌&&◌, ◌||◌, ◌==◌, nat_lt, if◌then◌else◌, ⊤, List, [], ◌∷◌, ◌++◌, length, Option, Some, None, option_map}
 use Rattle.std.specs.Char.{is_ascii_digit}
-use Rattle.dnw_zone_values.specs.Strings.{backslash, Plain, Escaped, octets_from, with_octet}
+use Rattle.dnw_zone_values.specs.Strings.{quote, backslash, Plain, Escaped, octets_from, with_octet}
 
 -- the octets of a text whose first character, which is no closing quote, is given
 abbrev pub octets_at : Bool → ℕ → List ℕ → Option (List ℕ)
@@ -14,6 +14,15 @@ decimal_octet a b c =
     if is_ascii_digit b && (is_ascii_digit c && nat_lt (100 * (a - 48) + 10 * (b - 48) + (c - 48)) 256)
     then Some (100 * (a - 48) + 10 * (b - 48) + (c - 48))
     else None
+
+-- an octet that may stand for something else than itself
+abbrev pub is_special : ℕ → Bool
+is_special c = c == quote || c == backslash
+
+-- the number of octets before the first one of these
+abbrev pub plain_len : List ℕ → ℕ
+plain_len [] = 0
+plain_len (c ∷ cs) = if is_special c then 0 else suc (plain_len cs)
 
 -- the octets that were found, and after them these
 abbrev pub after : List ℕ → Option (List ℕ) → Option (List ℕ)

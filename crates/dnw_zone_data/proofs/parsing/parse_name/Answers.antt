@@ -1,8 +1,7 @@
-use Rattle.std.proofs.Common.{List, ℕ, ◌++◌, refl, sym, ap, ◌∙◌}
-use Rattle.dnw_data.specs.Values.{name}
+use Rattle.std.specs.Option.{option_copied}
+use Rattle.dnw_zone_data.specs.NameReading.{named_at}
+use Rattle.dnw_zone_data.proofs.Pushed.{as_name}
 use Rattle.dnw_zone_data.proofs.parsing.parse_name.Goals as goal
 
 pub returns : goal.returns
-returns c =
-    let labels : List (List ℕ) = c.in-Some.form in
-    (name labels, (labels, sym c.in-Some.ensures, refl), c.in_ok-extend_from_slice.ensures.items ∙ ap (λ (xs : List ℕ). c.args.out.now.items ++ xs) c.as_bytes.ensures.form)
+returns c = as_name (option_copied c.args.origin) c.args.word.now c.args.out.now.items c.append_name.new.out.items c.append_name.result c.append_name.ensures

@@ -8,7 +8,7 @@ use Rattle.dnw_data.specs.Table.{fields_of}
 use Rattle.dnw_zone_data.specs.Words.{after_spaces, after_word, word}
 use Rattle.dnw_zone_data.specs.DataTexts.{FailsGeneric}
 use Rattle.dnw_zone_data.specs.Generic.{generic_mark, IsSized}
-use Rattle.dnw_zone_data.proofs.data_text.parse_in_line.Goals as goal
+use Rattle.dnw_zone_data.proofs.data_text.append_in_line.Goals as goal
 
 pub returns-then-eq : goal.returns-then-eq
 returns-then-eq c =
@@ -17,6 +17,6 @@ returns-then-eq c =
     let first : word (after_spaces text) ≡ c.split_word.result.0.now = sym (c.split_word.ensures.word ∙ ap word start) in
     let marked : word (after_spaces text) ≡ generic_mark = first ∙ (bytes_eq-Decides c.split_word.result.0.now generic_mark).0 (sym c.eq.ensures ∙ c.if-eq.true) in
     let left : c.split_word.result.1.now ≡ after_word (after_spaces text) = c.split_word.ensures.rest ∙ ap after_word start in
-    MatchResult-weaker c.parse_generic.result c.parse_generic.ensures
-    (λ own has. inl ((marked, subst (λ (xs : List ℕ). IsSized xs own.items) left has.0), has.1))
+    MatchResult-weaker c.append_generic.result c.append_generic.ensures
+    (λ _ has. (has.0, inl ((marked, subst (λ (xs : List ℕ). IsSized xs has.0) left has.1), has.2), has.3))
     (λ e fails. inl (marked, subst (λ (xs : List ℕ). FailsGeneric (fields_of (class_code c.args.class) (type_code c.args.record_type)) c.args.len xs e) left fails))

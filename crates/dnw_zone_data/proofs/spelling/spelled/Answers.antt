@@ -1,4 +1,0 @@
-use Rattle.dnw_zone_data.proofs.spelling.spelled.Goals as goal
-
-pub returns-in-Hex-clause-is : goal.returns-in-Hex-clause-is
-returns-in-Hex-clause-is c = rw c.in-Hex.is c.salt_of.ensures.is
