@@ -78,3 +78,11 @@ plain_ended place text so others rest front c octet ending whole is e on ends at
     let size : length so ≡ length text - length others = omega (arith, ap length whole, length-append so others) in
     let first : front ≡ so = at ∙ ap (take (length text - length others)) (sym whole) ∙ take_at so others (length text - length others) size in
     sym is ∙ here ∙ ap (λ (x : List ℕ). (x, ending)) (sym first)
+
+-- or all of the text
+pub plain_whole : (place : Place) (text so others : List ℕ) (ending : Ending) → so ++ others ≡ text → line_from so place false others ≡ line_of text
+    → others ≡ [] → ending ≡ end_at place false → line_of text ≡ (text, ending)
+plain_whole place text so others ending whole is none end =
+    let here : line_from so place false others ≡ (so, end_at place false) = rw none refl in
+    let all : so ≡ text = sym (append-nil so) ∙ ap (λ (x : List ℕ). so ++ x) (sym none) ∙ whole in
+    sym is ∙ here ∙ ap (λ (x : List ℕ). (x, end_at place false)) all ∙ ap (λ (x : Ending). (text, x)) (sym end)

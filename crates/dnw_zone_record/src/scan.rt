@@ -104,15 +104,15 @@ pub fn plain_line(text: &[u8]) -> Option<(&[u8], Ending)>
         match octet_of(place, false, *c) {
             Octet::Kept(next) => place = next,
             Octet::Blank(..) => return None,
-            Octet::End => return Some((before(text, others), Ending::Line)),
-            Octet::Wrong(rule) => return Some((before(text, others), Ending::Wrong(rule))),
+            Octet::End => return Some((up_to(text, others), Ending::Line)),
+            Octet::Wrong(rule) => return Some((up_to(text, others), Ending::Wrong(rule))),
         }
         left = rest;
     }
 }
 
 /// Returns what is before the end of a text.
-fn before(text: &[u8], end: &[u8]) -> &[u8]
+fn up_to<'t>(text: &'t [u8], end: &[u8]) -> &'t [u8]
     requires { length end.now ≤ length text.now }
     ensures { result.now ≡ take (length text.now - length end.now) text.now }
 {

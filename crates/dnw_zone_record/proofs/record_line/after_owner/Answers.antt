@@ -11,5 +11,5 @@ returns-clause-ok c =
       c.in_ok-head.ensures.ok,
       is,
       line_whole c.args.owner.now c.in_ok-head.head own c.in_ok-octets.octets.items c.append_data.new.out.items c.put_data_len.new.octets.items _ c.in_ok-octets.ensures
-          (c.len-start.ensures) items c.put_data_len.ensures,
+          (c.len-start.ensures ∙ c.in_ok-octets.octets.ok.0) items c.put_data_len.ensures,
     )
