@@ -690,6 +690,9 @@ static void lacks_memory(void)
     code = 1;
     EXPECT(dnw_types_write(&code, 1, buffer, sizeof buffer, &len) == DNW_NO_MEMORY && len == 0);
     EXPECT(dnw_option_print(3, BYTES("a"), buffer, sizeof buffer, &len) == DNW_NO_MEMORY && len == 0);
+    struct dnw_option option = {.is_given = true};
+    EXPECT(dnw_option_read(3, BYTES("a"), &option) == DNW_DONE && option.len == 1);
+    EXPECT(dnw_option_write(3, &option, BYTES("a"), buffer, sizeof buffer, &len) == DNW_NO_MEMORY && len == 0);
     EXPECT(lex(BYTES("\r")) == DNW_TEXT_CUT && lex(BYTES(")")) == DNW_ILLEGAL_CHARACTER && lex(BYTES("$")) == DNW_UNKNOWN_ENTRY);
     EXPECT(lex(BYTES("(\001")) == DNW_CONTROL_CHARACTER && lex(BYTES("(a")) == DNW_NO_MEMORY);
     EXPECT(dnw_token_next(BYTES("a"), &lexer, buffer, sizeof buffer, &token) == DNW_NO_MEMORY && lexer.offset == 0);

@@ -418,6 +418,16 @@ static void prints_options(size_t size)
     EXPECT(dnw_option_print(15, input, size, output, sizeof output, &len) == DNW_DONE && len >= (size < 2 ? 7 : size));
 }
 
+static void writes_options(size_t size)
+{
+    const struct dnw_option option = {.info_code = 1};
+    size_t len = 7;
+    input_len = 0;
+    fill('x', size);
+    EXPECT(dnw_option_write(3, &option, input, size, output, sizeof output, &len) == DNW_DONE && len == size);
+    EXPECT(dnw_option_write(15, &option, input, size, output, sizeof output, &len) == DNW_DONE && len == 2 + size);
+}
+
 /* Takes the entry that is in the input. */
 static void takes(const char *what, uint32_t kind, size_t len)
 {
@@ -583,6 +593,7 @@ static const struct row {
     {"dnw_names_write", writes_names},
     {"dnw_message_pack", packs},
     {"dnw_option_print", prints_options},
+    {"dnw_option_write", writes_options},
     {"dnw_record_data", reads_data},
     {"dnw_record_print", prints_records},
     {"dnw_data_parse", parses_data},

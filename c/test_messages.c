@@ -140,6 +140,93 @@ static void prints_options(void)
     is_shown(65535, BYTES("a"), "OPT=65535: 61 (\"a\")");
 }
 
+static struct dnw_option said;
+
+/* Reads an option. If that fails, what would be written is unchanged. If not, its data are written again from what they say. */
+static uint32_t read_option(uint16_t code, const uint8_t *data, size_t data_len)
+{
+    static const struct dnw_option none = {.source = 9, .offset = 9, .len = 9};
+    uint8_t again[64] = {'?'};
+    size_t len = 7;
+    said = none;
+    uint32_t answer = dnw_option_read(code, data, data_len, &said);
+    if (answer != DNW_DONE) {
+        EXPECT(said.source == 9 && said.offset == 9 && said.len == 9 && said.family == 0);
+        return answer;
+    }
+    EXPECT(said.offset + said.len == data_len);
+    const uint8_t *rest = data + said.offset;
+    if (data_len > 0)
+        EXPECT(dnw_option_write(code, &said, rest, said.len, again, data_len - 1, &len) == DNW_NO_ROOM && len == 7 && again[0] == '?');
+    EXPECT(dnw_option_write(code, &said, rest, said.len, again, data_len, &len) == DNW_DONE);
+    EXPECT(len == data_len && (len == 0 || memcmp(again, data, len) == 0) && again[len] == (len == 0 ? '?' : 0));
+    return DNW_DONE;
+}
+
+static uint32_t write_option(uint16_t code, struct dnw_option option, const uint8_t *rest, size_t rest_len)
+{
+    uint8_t data[64] = {'?'};
+    size_t len = 7;
+    uint32_t answer = dnw_option_write(code, &option, rest, rest_len, data, sizeof data, &len);
+    if (answer != DNW_DONE)
+        EXPECT(len == 7 && data[0] == '?');
+    return answer;
+}
+
+/* What each option says, at its limits; by the RFC of each. */
+static void reads_options(void)
+{
+    EXPECT(read_option(3, BYTES("")) == DNW_DONE && said.is_given && said.len == 0);
+    EXPECT(read_option(3, BYTES("ns1")) == DNW_DONE && said.len == 3);
+    EXPECT(read_option(8, BYTES("\000\001\030\020\300\000\002")) == DNW_DONE && said.family == 1);
+    EXPECT(said.source == 24 && said.scope == 16 && said.offset == 4 && said.len == 3);
+    EXPECT(read_option(8, BYTES("\000\001\040\040\300\000\002\001")) == DNW_DONE && said.source == 32);
+    EXPECT(read_option(8, BYTES("\000\002\001\200\200")) == DNW_DONE && said.family == 2 && said.scope == 128);
+    EXPECT(read_option(8, BYTES("\000\000\000\000")) == DNW_DONE && said.family == 0 && said.len == 0);
+    EXPECT(read_option(9, BYTES("")) == DNW_DONE && !said.is_given && said.seconds == 0);
+    EXPECT(read_option(9, BYTES("\377\377\377\376")) == DNW_DONE && said.is_given && said.seconds == 4294967294u);
+    EXPECT(read_option(10, BYTES("12345678")) == DNW_DONE && memcmp(said.client, "12345678", 8) == 0 && said.len == 0);
+    EXPECT(read_option(10, BYTES("12345678abcdefgh")) == DNW_DONE && said.offset == 8 && said.len == 8);
+    EXPECT(read_option(10, BYTES("12345678abcdefghabcdefghabcdefghabcdefgh")) == DNW_DONE && said.len == 32);
+    EXPECT(read_option(11, BYTES("")) == DNW_DONE && !said.is_given);
+    EXPECT(read_option(11, BYTES("\377\376")) == DNW_DONE && said.is_given && said.timeout == 65534);
+    EXPECT(read_option(12, BYTES("\000\000")) == DNW_DONE && said.len == 2);
+    EXPECT(read_option(13, BYTES("")) == DNW_DONE && !said.is_given);
+    EXPECT(read_option(13, BYTES("\000")) == DNW_DONE && said.is_given && said.len == 1);
+    EXPECT(read_option(15, BYTES("\377\376")) == DNW_DONE && said.info_code == 65534 && said.offset == 2 && said.len == 0);
+    EXPECT(read_option(15, BYTES("\000\017\303\251")) == DNW_DONE && said.info_code == 15 && said.len == 2);
+    EXPECT(read_option(18, BYTES("\001a\000")) == DNW_DONE && said.is_given && said.offset == 0 && said.len == 3);
+    EXPECT(read_option(19, BYTES("")) == DNW_DONE && !said.is_given);
+    EXPECT(read_option(19, BYTES("\002\000abcd")) == DNW_DONE && said.is_given && said.labels == 2 && said.version_type == 0);
+    EXPECT(said.offset == 2 && said.len == 4);
+    EXPECT(read_option(19, BYTES("\377\001")) == DNW_DONE && said.labels == 255 && said.version_type == 1 && said.len == 0);
+    EXPECT(read_option(65001, BYTES("ab")) == DNW_DONE && said.is_given && said.offset == 0 && said.len == 2);
+}
+
+/* Data that break a rule of their option, and what no option says. */
+static void refuses_options(void)
+{
+    EXPECT(read_option(8, BYTES("\000\001\030")) == DNW_BAD_DATA && read_option(8, BYTES("\000\001\030\000\300\000")) == DNW_BAD_DATA);
+    EXPECT(read_option(8, BYTES("\000\001\041\000\300\000\002\001\000")) == DNW_BAD_FAMILY);
+    EXPECT(read_option(8, BYTES("\000\001\000\041")) == DNW_BAD_FAMILY);
+    EXPECT(read_option(8, BYTES("\000\002\000\201")) == DNW_BAD_FAMILY);
+    EXPECT(read_option(8, BYTES("\000\001\027\000\300\000\003")) == DNW_BAD_FAMILY);
+    EXPECT(read_option(9, BYTES("\000\000\000")) == DNW_BAD_DATA && read_option(11, BYTES("\000")) == DNW_BAD_DATA);
+    EXPECT(read_option(10, BYTES("1234567")) == DNW_BAD_DATA && read_option(10, BYTES("12345678abcdefg")) == DNW_BAD_DATA);
+    EXPECT(read_option(10, BYTES("12345678abcdefghabcdefghabcdefghabcdefgha")) == DNW_BAD_DATA);
+    EXPECT(read_option(13, BYTES("\001a")) == DNW_BAD_DATA && read_option(18, BYTES("")) == DNW_BAD_DATA);
+    EXPECT(read_option(18, BYTES("\001a\300\000")) == DNW_BAD_DATA && read_option(18, BYTES("\001a\000\000")) == DNW_BAD_DATA);
+    EXPECT(read_option(15, BYTES("\000")) == DNW_BAD_DATA && read_option(15, BYTES("\000\001\377")) == DNW_NOT_UTF8);
+    EXPECT(read_option(19, BYTES("\001")) == DNW_BAD_DATA && read_option(19, BYTES("\001\000abc")) == DNW_BAD_DATA);
+    EXPECT(write_option(8, (struct dnw_option){.family = 1, .source = 24}, BYTES("\300\000")) == DNW_BAD_DATA);
+    EXPECT(write_option(8, (struct dnw_option){.family = 1, .source = 33}, BYTES("12345")) == DNW_BAD_FAMILY);
+    EXPECT(write_option(10, (struct dnw_option){.client = "1234567"}, BYTES("1234567")) == DNW_BAD_DATA);
+    EXPECT(write_option(13, (struct dnw_option){.is_given = false}, BYTES("\001a")) == DNW_BAD_DATA);
+    EXPECT(write_option(15, (struct dnw_option){.info_code = 1}, BYTES("\377")) == DNW_NOT_UTF8);
+    EXPECT(write_option(19, (struct dnw_option){.is_given = true}, BYTES("abc")) == DNW_BAD_DATA);
+    EXPECT(write_option(9, (struct dnw_option){.is_given = false, .seconds = 7}, BYTES("not read")) == DNW_DONE);
+}
+
 /* Reads the next field of data. If that fails, what would be written is unchanged. */
 static uint32_t next_field(const uint8_t *octets, size_t len, uint16_t type, struct dnw_fields *fields, struct dnw_field *field)
 {
@@ -371,6 +458,8 @@ int main(void)
     refuses_messages();
     reads_edns();
     prints_options();
+    reads_options();
+    refuses_options();
     reads_fields();
     refuses_fields();
     packs_messages();

@@ -125,11 +125,34 @@ static void puts_whole_data(void)
     EXPECT(data_at(82, 256, &len) == DNW_MESSAGE_CUT && data_at(200, 256, &len) == DNW_MESSAGE_CUT);
 }
 
+/* An RRSIG with so many octets of data, whose signer is a pointer to a name of four octets. */
+static uint32_t long_data(size_t size, size_t *len)
+{
+    static uint8_t message[4 + 12 + 65535], data[65536];
+    memset(message, 0, sizeof message);
+    memcpy(message, "\002ab\000\300\000\000\056\000\001", 10);
+    message[14] = (uint8_t)(size >> 8), message[15] = (uint8_t)size, message[16 + 18] = 0300;
+    *len = 7, data[0] = 0xEE;
+    uint32_t answer = dnw_record_data(message, 16 + size, 4, data, sizeof data, len);
+    EXPECT(answer == DNW_DONE ? memcmp(data + 18, "\002ab", 4) == 0 && data[*len - 1] == 0 : *len == 7 && data[0] == 0xEE);
+    return answer;
+}
+
+/* Data with every name in its wire form have at most 65535 octets. */
+static void data_have_lengths(void)
+{
+    size_t len;
+    EXPECT(long_data(20, &len) == DNW_DONE && len == 22);
+    EXPECT(long_data(65533, &len) == DNW_DONE && len == 65535);
+    EXPECT(long_data(65534, &len) == DNW_DATA_TOO_LONG && long_data(65535, &len) == DNW_DATA_TOO_LONG);
+}
+
 int main(void)
 {
     lists_items_and_fields();
     lists_entries();
     refuses_messages();
     puts_whole_data();
+    data_have_lengths();
     return 0;
 }

@@ -96,6 +96,9 @@ static void call_messages(struct results *results)
     KEEP(dnw_message_pack(BYTES(response), 512, buffer, sizeof buffer, &packed), buffer, packed.len);
     KEEP(dnw_edns_read(BYTES(response), 99, &edns), &edns.max_payload, sizeof edns.max_payload);
     KEEP(dnw_option_print(15, BYTES("\000\006bad"), buffer, sizeof buffer, &len), buffer, len);
+    struct dnw_option option;
+    KEEP(dnw_option_read(15, BYTES("\000\006bad"), &option), &option.info_code, sizeof option.info_code);
+    KEEP(dnw_option_write(15, &option, BYTES("bad"), buffer, sizeof buffer, &len), buffer, len);
     KEEP(dnw_record_data(BYTES(response), 21, buffer, sizeof buffer, &len), buffer, len);
     KEEP(dnw_writer_begin(buffer, sizeof buffer, 512, 7, 0, &writer), "", 0);
     KEEP(dnw_writer_question(buffer, sizeof buffer, BYTES("\001a\000"), 1, 1, &writer), "", 0);

@@ -95,8 +95,32 @@ def serve(channel, left, sent):
         channel.sendto(message(query, options), asking)
 
 
+class Said(ctypes.Structure):
+    """struct dnw_option"""
+
+    _fields_ = [(name, ctypes.c_uint8) for name in ("is_given", "source", "scope", "labels", "version_type")]
+    _fields_ += [(name, ctypes.c_uint16) for name in ("family", "timeout", "info_code")] + [("seconds", ctypes.c_uint32)]
+    _fields_ += [("client", ctypes.c_uint8 * 8), ("offset", ctypes.c_size_t), ("len", ctypes.c_size_t)]
+
+
+def said_by(code, octets):
+    """What an option says, which is written as the same octets again; None if it breaks a rule."""
+    said, length, room = Said(), ctypes.c_size_t(), ctypes.create_string_buffer(len(octets) + 8)
+    if OURS.dnw_option_read(ctypes.c_uint16(code), octets, ctypes.c_size_t(len(octets)), ctypes.byref(said)):
+        return None
+    rest = octets[said.offset :]
+    check(len(rest) == said.len, code, octets)
+    size = ctypes.c_size_t(len(room))
+    answer = OURS.dnw_option_write(
+        ctypes.c_uint16(code), ctypes.byref(said), rest, ctypes.c_size_t(len(rest)), room, size, ctypes.byref(length)
+    )
+    check(answer == 0 and room.raw[: length.value] == octets, code, octets)
+    return said
+
+
 def compare_dnspython(code, octets, line):
-    """Compares what dnspython reads of two options with our line."""
+    """Compares what dnspython reads of two options with our line, and with what we say of them."""
+    said = said_by(code, octets)
     try:
         read = dns.edns.option_from_wire(code, octets, 0, len(octets))
     except Exception:
@@ -105,12 +129,14 @@ def compare_dnspython(code, octets, line):
         address, source, scope = line.split(": ", 1)[1].split("/")
         wanted = ipaddress.ip_address(read.address), read.srclen, read.scopelen
         check((ipaddress.ip_address(address), int(source), int(scope)) == wanted, line, read)
+        check((said.family, said.source, said.scope, octets[said.offset :]) == (read.family, *wanted[1:], read.addrdata), octets, read)
     elif isinstance(read, dns.edns.EDEOption) and line.startswith("EDE") and read.code <= 24:
         name = dns.edns.EDECode(read.code).name.replace("_", " ").lower()
         named = re.match(r"EDE: (\d+) \((.*?)\)", line)
         check((int(named[1]), re.sub(r"[^a-z0-9 ]", " ", named[2].lower())) == (read.code, name), line, name)
         shown = "".join("." if ord(c) < 32 or 127 <= ord(c) < 160 else c for c in read.text or "")
         check(line.endswith(f": ({shown})") if shown else line.endswith(f"({named[2]})"), line, shown)
+        check((said.info_code, octets[said.offset :].decode()) == (read.code, read.text or ""), octets, read)
     else:
         return 0
     return 1

@@ -77,7 +77,7 @@ enum dnw_failure {
     DNW_OWNER_NOT_ROOT = 32,   /* an OPT record whose owner is not the root */
     DNW_CUT_OPTION = 33,       /* an option of an OPT record that is cut */
     DNW_BAD_PARAMS = 34,       /* service parameters that are not in ascending order */
-    DNW_BAD_DATA = 35,         /* a text or octets that are not data of the record type, or more than 65535 octets */
+    DNW_BAD_DATA = 35,         /* a text or octets that are not data of the record type or of an option, or more than 65535 */
     DNW_NOT_RRSIG = 36,        /* a record that should be an RRSIG and is of another type */
     DNW_NOT_COVERED = 37,      /* an RRSIG that covers none of the records */
     DNW_TOO_FEW_LABELS = 38,   /* an RRSIG whose owner has fewer labels than it counts */
@@ -86,7 +86,7 @@ enum dnw_failure {
     DNW_NOT_DNSKEY = 41,       /* octets that are not the data of a DNSKEY record */
     DNW_UNKNOWN_ALGORITHM = 42, /* an unknown digest type or hash algorithm */
     DNW_TOO_MANY_ITERATIONS = 43, /* more iterations of a hash than the caller allows */
-    DNW_BAD_FAMILY = 44        /* an address prefix or a gateway that its family or type does not allow */
+    DNW_BAD_FAMILY = 44        /* an address, a prefix or a gateway that its family or type does not allow */
 };
 
 /* `len` bytes were stored in the buffer, and the name's own octets end at offset `end` of the message. */
@@ -280,6 +280,38 @@ uint32_t dnw_edns_read(const uint8_t *message, size_t message_len, size_t max_po
 uint32_t dnw_option_print(uint16_t code, const uint8_t *data, size_t data_len, uint8_t *text, size_t text_size,
                           size_t *text_len);
 
+/* What an EDNS option says. Members that its code has none of are 0. After them come the `len` octets of its data at offset
+   `offset`: any octets of NSID (3) and padding (12), an address, the cookie of a server, the wire form of a name in chain (13)
+   and report channel (18), the text of an error, a version, or all octets of an option of which nothing is known. */
+struct dnw_option {
+    bool is_given;        /* false if expire, TCP keepalive, chain or ZONEVERSION is empty, as in queries */
+    uint8_t source;       /* client subnet (8; RFC 7871, section 6): how many bits of the address are given, */
+    uint8_t scope;        /* and how many of them the response is for */
+    uint8_t labels;       /* ZONEVERSION (19; RFC 9660, section 2): how many labels of the name are the zone's, */
+    uint8_t version_type; /* and what the version is: 0 for a serial number */
+    uint16_t family;      /* client subnet: the family of the address, 1 for IPv4 and 2 for IPv6 */
+    uint16_t timeout;     /* TCP keepalive (11; RFC 7828, section 3.1): in tenths of a second */
+    uint16_t info_code;   /* extended error (15; RFC 8914, section 2) */
+    uint32_t seconds;     /* expire (9; RFC 7314, section 2) */
+    uint8_t client[8];    /* cookie (10; RFC 7873, section 4): that of the client */
+    size_t offset;
+    size_t len;
+};
+
+/* Reads an option with this code and this data, and stores what it says. It does not allocate. It fails with DNW_BAD_DATA if no
+   option with this code has so many octets, or if they are not the wire form of a name; with DNW_BAD_FAMILY if a prefix is
+   longer than an address of its family, or if an address has a bit after its prefix that is not 0; and with DNW_NOT_UTF8 if
+   the text of an error is not UTF-8. An option of which nothing is known may have any data. */
+uint32_t dnw_option_read(uint16_t code, const uint8_t *data, size_t data_len, struct dnw_option *option);
+
+/* Stores the data of an option with this code that says this, and their length in `data_len`: the members that its code has,
+   and after them the `rest_len` octets of `rest`. `offset` and `len` are not read, nor is `rest` for expire and TCP keepalive,
+   nor for ZONEVERSION if it is not given; chain is given if `rest` is not empty. It fails as dnw_option_read if a rule is
+   broken; with DNW_NO_ROOM if the data have more than `data_size` octets, of which `rest_len` + 8 are always enough; and with
+   DNW_NO_MEMORY. */
+uint32_t dnw_option_write(uint16_t code, const struct dnw_option *option, const uint8_t *rest, size_t rest_len, uint8_t *data,
+                          size_t data_size, size_t *data_len);
+
 /* `len` octets of a message were stored in the buffer. `truncated` is the TC bit of its header. */
 struct dnw_packed {
     size_t len;
@@ -416,10 +448,11 @@ struct dnw_table {
 uint32_t dnw_message_table(const uint8_t *message, size_t message_len, size_t max_pointers, struct dnw_row *rows, size_t rows_size,
                            uint8_t *names, size_t names_size, struct dnw_table *table);
 
-/* Stores the data of the record at offset `start` of a message, with every name in its wire form, and their length in `len`.
-   They may be more than 65535, which no record can have, if long data had compressed names.
-   It fails as dnw_record_read if no record is there, as dnw_field_next at the first field that is wrong, with DNW_NO_ROOM if
-   the data have more than `data_size` octets, and with DNW_NO_MEMORY. */
+/* Stores the data of the record at offset `start` of a message, with every name in its wire form, and their length in `len`,
+   which is at most 65535.
+   It fails as dnw_record_read if no record is there; as dnw_field_next at the first field that is wrong; with
+   DNW_DATA_TOO_LONG if the data have more than 65535 octets once names are uncompressed, which no record can have; with
+   DNW_NO_ROOM if they have more than `data_size` octets; and with DNW_NO_MEMORY. */
 uint32_t dnw_record_data(const uint8_t *message, size_t message_len, size_t start, uint8_t *data, size_t data_size, size_t *len);
 
 /* `len` bytes of text were stored in the buffer, and the record ends at offset `end` of the message. */

@@ -13,8 +13,10 @@ www.example.com. 60 IN A 192.0.2.1
 
 `help(dns_names_wire.Message)`, or `pydoc dns_names_wire.Message`, explains a class or a function:
 
-messages    Message, Header, Question, Edns, EdnsOption, OpCode, ResponseCode; make_query,
-            make_response; MessageWriter writes a message step by step
+messages    Message, Header, Question, Edns, OpCode, ResponseCode; make_query, make_response;
+            MessageWriter writes a message step by step
+options     EdnsOption, OptionData, with a class for each option, as ClientSubnet or Cookie, and
+            UnknownOption for any other
 records     Record, RRset; rrsets, read_record, records, parse_ttl; RecordType, RecordClass, with
             type_text, type_code, class_text, class_code
 data        Data, with a class for each type, as A, MX, SOA or TXT, and Unknown for any other;
@@ -62,7 +64,12 @@ from ._messages import (
     make_response as make_response,
 )  # fmt: skip
 from ._names import Name as Name, NameAt as NameAt, names as names, read_name as read_name, sort_names as sort_names
-from ._options import EdnsOption as EdnsOption
+from ._options import (
+    Chain as Chain, ClientSubnet as ClientSubnet, Cookie as Cookie, EdnsOption as EdnsOption, Expire as Expire,
+    ExtendedError as ExtendedError, Nsid as Nsid, OptionData as OptionData, Padding as Padding,
+    ReportChannel as ReportChannel, TcpKeepalive as TcpKeepalive, UnknownOption as UnknownOption,
+    ZoneVersion as ZoneVersion,
+)  # fmt: skip
 from ._rdata import (
     A as A, AAAA as AAAA, AFSDB as AFSDB, AMTRELAY as AMTRELAY, APL as APL, AVC as AVC, BRID as BRID, CAA as CAA,
     CDNSKEY as CDNSKEY, CDS as CDS, CERT as CERT, CLA as CLA, CNAME as CNAME, CSYNC as CSYNC, DHCID as DHCID,

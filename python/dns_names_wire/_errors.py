@@ -120,7 +120,7 @@ class BadText(DnsError):
 
 
 class NotUtf8(DnsError):
-    """A text has no UTF-8, for example since it has half a surrogate pair."""
+    """A text has no UTF-8, for example since it has half a surrogate pair, or that of an EDNS option is not UTF-8."""
 
     number = 10
 
@@ -258,7 +258,7 @@ class BadParams(DnsError):
 
 
 class BadData(DnsError):
-    """A text or octets that are not data of the record type, or more than 65535 octets of data."""
+    """A text or octets that are not data of the record type or of an option, or more than 65535 octets of data."""
 
     number = 35
 
@@ -315,7 +315,7 @@ class TooManyIterations(DnsError):
 
 
 class BadFamily(DnsError):
-    """An address prefix or a gateway that its family or type does not allow."""
+    """An address, a prefix or a gateway that its family or type does not allow."""
 
     number = 44
 

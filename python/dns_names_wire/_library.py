@@ -108,6 +108,23 @@ class Edns(ctypes.Structure):
     ]
 
 
+class OptionParts(ctypes.Structure):
+    _fields_ = [
+        ("is_given", c_bool),
+        ("source", c_uint8),
+        ("scope", c_uint8),
+        ("labels", c_uint8),
+        ("version_type", c_uint8),
+        ("family", c_uint16),
+        ("timeout", c_uint16),
+        ("info_code", c_uint16),
+        ("seconds", c_uint32),
+        ("client", c_uint8 * 8),
+        ("offset", c_size_t),
+        ("len", c_size_t),
+    ]
+
+
 class Table(ctypes.Structure):
     _fields_ = [("row_count", c_size_t), ("names_len", c_size_t)]
 
@@ -183,6 +200,8 @@ _FUNCTIONS = {
     "dnw_message_read": (*_READ, c_size_t, POINTER(Message), POINTER(MessageFault)),
     "dnw_is_reply_to": (*_READ, *_READ, POINTER(c_bool)),
     "dnw_edns_read": (*_READ, c_size_t, POINTER(Edns)),
+    "dnw_option_read": (c_uint16, *_READ, POINTER(OptionParts)),
+    "dnw_option_write": (c_uint16, POINTER(OptionParts), *_READ, *_WRITTEN, POINTER(c_size_t)),
     "dnw_option_print": (c_uint16, *_READ, *_WRITTEN, POINTER(c_size_t)),
     "dnw_message_table": (*_READ, c_size_t, *_WRITTEN, *_WRITTEN, POINTER(Table)),
     "dnw_record_data": (*_READ, c_size_t, *_WRITTEN, POINTER(c_size_t)),

@@ -1,5 +1,6 @@
 """Compares with dnspython, if it is installed: the same names from the same bytes, and the same order."""
 
+import ipaddress
 import random
 import unittest
 
@@ -7,6 +8,7 @@ from dns_names_wire import (
     NS,
     DnsError,
     Edns,
+    EdnsOption,
     Header,
     Message,
     MessageWriter,
@@ -19,6 +21,7 @@ from dns_names_wire import (
 )
 
 try:
+    import dns.edns
     import dns.exception
     import dns.flags
     import dns.message
@@ -154,6 +157,22 @@ class BesideDnspython(unittest.TestCase):
             # as a text, which dnspython reads as the same data
             shown_kind, shown = str(record).split(" ", 4)[3:]
             self.assertEqual((shown_kind, dns.rdata.from_text("IN", kind, shown)), (kind, theirs), text)
+
+    def test_options_are_read_and_written_alike(self):
+        chance = random.Random(55)
+        for _ in range(400):
+            bits = chance.choice([32, 128])
+            address = str((ipaddress.IPv4Address if bits == 32 else ipaddress.IPv6Address)(chance.getrandbits(bits)))
+            source, scope = chance.randrange(bits + 1), chance.randrange(bits + 1)
+            theirs = dns.edns.ECSOption(address, source, scope)
+            ours = EdnsOption(8, theirs.to_wire()).data
+            self.assertEqual((ours.family, ours.source, ours.scope), (1 if bits == 32 else 2, source, scope))
+            self.assertEqual(ours.address, theirs.addrdata)
+            self.assertEqual(ours.option().octets, theirs.to_wire())
+            theirs = dns.edns.EDEOption(chance.randrange(65536), chance.choice([None, "why", "\u00e9", "x" * 99]))
+            ours = EdnsOption(15, theirs.to_wire()).data
+            self.assertEqual((ours.error_code, ours.text or None), (theirs.code, theirs.text))
+            self.assertEqual(ours.option().octets, theirs.to_wire())
 
     def test_messages_are_read_as_they_were_written(self):
         owners = "www.example.", "example.", "x.www.example."

@@ -262,6 +262,40 @@ class Texts(unittest.TestCase):
         for code, octets, error in [(65536, b"", ValueError), (-1, b"", ValueError), ("3", b"", TypeError), (3, "", TypeError)]:
             self.assertRaises(error, str, dnw.EdnsOption(code, octets))  # type: ignore[arg-type]
 
+    def test_what_options_say(self) -> None:
+        """Both ways, at the limits of each."""
+        name = Name("a.")
+        for octets, data in [
+            (b"", dnw.Nsid()), (b"ns1", dnw.Nsid(b"ns1")), (b"\0\0", dnw.Padding(b"\0\0")),
+            (b"\0\1\x18\x10\xc0\0\2", dnw.ClientSubnet(1, 24, 16, b"\xc0\0\2")), (b"\0\2\1\x80\x80", dnw.ClientSubnet(2, 1, 128, b"\x80")),
+            (b"\xff\xff\xff\xff", dnw.ClientSubnet(65535, 255, 255, bytes(31) + b"\xfe")), (b"", dnw.Expire()),
+            (b"\xff\xff\xff\xfe", dnw.Expire(4294967294)), (b"\0" * 4, dnw.Expire(0)), (b"12345678", dnw.Cookie(b"12345678")),
+            (b"12345678abcdefgh", dnw.Cookie(b"12345678", b"abcdefgh")), (b"", dnw.TcpKeepalive()), (b"\xff\xfe", dnw.TcpKeepalive(65534)),
+            (b"", dnw.Chain()), (b"\0", dnw.Chain(Name("."))), (b"\1a\0", dnw.Chain(name)), (b"\1a\0", dnw.ReportChannel(name)),
+            (b"\xff\xfe", dnw.ExtendedError(65534)), (b"\0\x0f\xc3\xa9", dnw.ExtendedError(15, "\u00e9")), (b"", dnw.ZoneVersion()),
+            (b"\2\0abcd", dnw.ZoneVersion(2, 0, b"abcd")), (b"\xff\xff", dnw.ZoneVersion(255, 255)), (b"ab", dnw.UnknownOption(65001, b"ab")),
+        ]:  # fmt: skip
+            wanted = octets + data.address if isinstance(data, dnw.ClientSubnet) and data.family == 65535 else octets
+            self.assertEqual((data.option(), data.option().data, hash(data)), ((data.code, wanted), data, hash(data.option().data)))
+        self.assertEqual(dnw.ReportChannel("a.").option().data, dnw.ReportChannel(name))
+
+    def test_what_no_option_says(self) -> None:
+        for code, octets, error in [
+            (8, b"\0\1\x18", dnw.BadData), (8, b"\0\1\x18\0\xc0\0", dnw.BadData), (8, b"\0\1\x21\0\xc0\0\2\1\0", dnw.BadFamily),
+            (8, b"\0\1\x17\0\xc0\0\3", dnw.BadFamily), (9, b"\0\0\0", dnw.BadData), (10, b"1234567", dnw.BadData), (11, b"\0", dnw.BadData),
+            (13, b"\1a", dnw.BadData), (15, b"\0\1\xff", dnw.NotUtf8), (18, b"", dnw.BadData), (19, b"\1\0abc", dnw.BadData),
+            (65536, b"", ValueError), (3, "", TypeError),
+        ]:  # fmt: skip
+            self.assertRaises(error, lambda: dnw.EdnsOption(code, octets).data)  # type: ignore[arg-type]
+        for data, error in [
+            (dnw.ClientSubnet(1, 24, 0, b"\xc0"), dnw.BadData), (dnw.ClientSubnet(1, 33, 0, bytes(5)), dnw.BadFamily),
+            (dnw.ClientSubnet(65536, 0, 0, b""), ValueError), (dnw.ClientSubnet(1, 256, 0, b""), ValueError), (dnw.Expire(2**32), ValueError),
+            (dnw.Cookie(b"1234567"), ValueError), (dnw.Cookie(b"12345678", b"1234567"), dnw.BadData), (dnw.TcpKeepalive(65536), ValueError),
+            (dnw.ExtendedError(1, "\ud800"), dnw.NotUtf8), (dnw.Chain("a"), ValueError), (dnw.ZoneVersion(1, 0, b"abc"), dnw.BadData),
+            (dnw.UnknownOption(9, b"a"), dnw.BadData), (dnw.Nsid("a"), TypeError),  # type: ignore[arg-type]
+        ]:  # fmt: skip
+            self.assertRaises(error, data.option)
+
     def test_a_message_is_shown_as_dig_shows_it(self) -> None:
         """Lines of dig 9.18, with spaces for tabs."""
         options = ((65001, b"ab\0"), (65002, b""), (8, b"\0\1\x18\0\xc0\0\2"), (15, b"\0\6" + "\u00e9\x1b".encode()), (10, b"a"))

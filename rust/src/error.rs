@@ -178,6 +178,8 @@ pub enum ErrorKind {
     LabelTooLong,
     /// A label that is empty, or a line of a master file that does not begin with a name.
     BadText,
+    /// The text of an EDNS option is not UTF-8.
+    NotUtf8,
     /// Bytes follow a name that should end the input.
     BytesLeft,
     /// The message would be longer than its maximum.
@@ -221,7 +223,7 @@ pub enum ErrorKind {
     CutOption,
     /// Service parameters that are not in ascending order.
     BadParams,
-    /// A text or octets that are not data of the record type, or more than 65535 octets of data.
+    /// A text or octets that are not data of the record type or of an option, or more than 65535 octets of data.
     BadData,
     /// A record that should be an RRSIG and is of another type.
     NotRrsig,
@@ -239,14 +241,14 @@ pub enum ErrorKind {
     UnknownAlgorithm,
     /// More iterations of a hash than the caller allows.
     TooManyIterations,
-    /// An address prefix or a gateway that its family or type does not allow.
+    /// An address, a prefix or a gateway that its family or type does not allow.
     BadFamily,
     /// Another error, by its number in `dns_names_wire.h`.
     Other(u32),
 }
 
 /// The errors of the C library that have a name in this crate, each with its number in `dns_names_wire.h`.
-const NUMBERS: [(u32, ErrorKind); 40] = [
+const NUMBERS: [(u32, ErrorKind); 41] = [
     (1, ErrorKind::NoMemory),
     (2, ErrorKind::NoRoom),
     (3, ErrorKind::MessageCut),
@@ -256,6 +258,7 @@ const NUMBERS: [(u32, ErrorKind); 40] = [
     (7, ErrorKind::NameTooLong),
     (8, ErrorKind::LabelTooLong),
     (9, ErrorKind::BadText),
+    (10, ErrorKind::NotUtf8),
     (11, ErrorKind::BytesLeft),
     (12, ErrorKind::MessageTooLong),
     (14, ErrorKind::UnknownText),

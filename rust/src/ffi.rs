@@ -40,6 +40,8 @@ pub(crate) const LABEL_SIZE: usize = 32;
 const USUAL_SIZE: usize = 512;
 /// The octets of the longest data of a record.
 const DATA_SIZE: usize = 65535;
+/// The most octets of an option before those that are given to a call: a client's cookie.
+const OPTION_HEAD: usize = 8;
 /// `DNW_NO_ROOM`
 const NO_ROOM: u32 = 2;
 /// The octets of a header (RFC 1035, section 4.1.1).
@@ -141,6 +143,24 @@ pub(crate) struct Edns {
     pub(crate) response_code: u16,
     pub(crate) options_offset: usize,
     pub(crate) options_len: usize,
+}
+
+/// `struct dnw_option`
+#[repr(C)]
+#[derive(Default)]
+pub(crate) struct OptionParts {
+    pub(crate) is_given: bool,
+    pub(crate) source: u8,
+    pub(crate) scope: u8,
+    pub(crate) labels: u8,
+    pub(crate) version_type: u8,
+    pub(crate) family: u16,
+    pub(crate) timeout: u16,
+    pub(crate) info_code: u16,
+    pub(crate) seconds: u32,
+    pub(crate) client: [u8; 8],
+    pub(crate) offset: usize,
+    pub(crate) len: usize,
 }
 
 /// `struct dnw_fields`
@@ -255,6 +275,16 @@ extern "C" {
         fault: *mut MessageFault,
     ) -> u32;
     fn dnw_edns_read(message: *const u8, message_len: usize, max_pointers: usize, edns: *mut Edns) -> u32;
+    fn dnw_option_read(code: u16, data: *const u8, data_len: usize, option: *mut OptionParts) -> u32;
+    fn dnw_option_write(
+        code: u16,
+        option: *const OptionParts,
+        rest: *const u8,
+        rest_len: usize,
+        data: *mut u8,
+        data_size: usize,
+        data_len: *mut usize,
+    ) -> u32;
     fn dnw_option_print(
         code: u16,
         data: *const u8,

@@ -23,6 +23,7 @@
 //! | make names from names and labels | [`Name::from_labels`], [`Name::append`], [`Name::prepend_label`], [`Name::base_name`], [`Name::trim_to`], [`Name::to_wildcard`] |
 //! | print, compare, sort, hash | `Display`, `Ord`, `Hash`, [`sort_names`], [`Name::sort_key`], [`Name::zone_of`], [`Name::to_lowercase`] |
 //! | check a whole message, and read its header, its sections and its EDNS | [`Message`] |
+| read what EDNS options say, and make options that say it | [`EdnsOption`], [`EdnsOptionData`] |
 //! | read the records of a message, and their data by type or field by field | [`Record`], [`records()`], [`Record::data`] and [`RData`], [`Record::fields`] |
 //! | print records as lines of master files, and messages as `dig` does | `Display` of [`Record`] and [`Message`] |
 //! | build queries and replies, section by section, and write them within a size | [`MessageBuilder`] |
@@ -85,7 +86,7 @@ mod zone;
 
 pub use builder::MessageBuilder;
 pub use codes::{Class, RecordType, SerialNumber};
-pub use edns_option::EdnsOption;
+pub use edns_option::{EdnsOption, EdnsOptionData, ZoneVersion};
 pub use error::{Error, ErrorKind, Section, TextFault, TextRule};
 pub use field::{Field, Fields, Pairs, Prefix, Prefixes, Texts, WholeNames};
 pub use header::{Header, OpCode, ResponseCode};

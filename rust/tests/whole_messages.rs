@@ -2,8 +2,8 @@
 //! 1035, section 4.1, and RFC 6891, section 6.1.
 use dns_names_wire::rdata::{CAA, DS, MX, NSEC3, RRSIG, SOA, SRV, SVCB, TLSA};
 use dns_names_wire::{
-    EdnsOption, Error, ErrorKind, Field, Message, Name, NameRef, OpCode, Pairs, RData, Record, RecordType,
-    ResponseCode, Section, Texts, TypeSet,
+    EdnsOption, EdnsOptionData, Error, ErrorKind, Field, Message, Name, NameRef, OpCode, Pairs, RData, Record, RecordType,
+    ResponseCode, Section, Texts, TypeSet, ZoneVersion,
 };
 
 /// A response with thirteen records, each of another type, and an OPT record.
@@ -308,6 +308,59 @@ fn a_message_is_shown_with_edns_or_with_what_is_none() {
 
 /// Random data, often with a fault: the data by type fail as the first wrong field does, or have the same octets as the
 /// fields.
+/// What each option says, both ways, at its limits; by the RFC of each.
+#[test]
+fn options_say() {
+    let name: Name = "a.".parse().unwrap();
+    let version = |labels, version_type, version| EdnsOptionData::ZoneVersion(Some(ZoneVersion { labels, version_type, version }));
+    let subnet = |family, source, scope, address| EdnsOptionData::ClientSubnet { family, source, scope, address };
+    let cookie = |server| EdnsOptionData::Cookie { client: *b"12345678", server };
+    for (octets, data) in [
+        (&b""[..], EdnsOptionData::Nsid(b"")),
+        (b"ns1", EdnsOptionData::Nsid(b"ns1")),
+        (b"\0\x01\x18\x10\xC0\0\x02", subnet(1, 24, 16, b"\xC0\0\x02")),
+        (b"\0\x02\x01\x80\x80", subnet(2, 1, 128, b"\x80")),
+        (b"", EdnsOptionData::Expire(None)),
+        (b"\xFF\xFF\xFF\xFE", EdnsOptionData::Expire(Some(u32::MAX - 1))),
+        (b"\0\0\0\0", EdnsOptionData::Expire(Some(0))),
+        (b"12345678", cookie(b"")),
+        (b"12345678abcdefgh", cookie(b"abcdefgh")),
+        (b"", EdnsOptionData::TcpKeepalive(None)),
+        (b"\xFF\xFE", EdnsOptionData::TcpKeepalive(Some(u16::MAX - 1))),
+        (b"\0\0", EdnsOptionData::Padding(b"\0\0")),
+        (b"", EdnsOptionData::Chain(None)),
+        (b"\x01a\0", EdnsOptionData::Chain(Some(name.clone()))),
+        (b"\xFF\xFE", EdnsOptionData::ExtendedError { code: u16::MAX - 1, text: "" }),
+        (b"\0\x0F\xC3\xA9", EdnsOptionData::ExtendedError { code: 15, text: "\u{E9}" }),
+        (b"\x01a\0", EdnsOptionData::ReportChannel(name)),
+        (b"", EdnsOptionData::ZoneVersion(None)),
+        (b"\x02\0abcd", version(2, 0, b"abcd")),
+        (b"\xFF\xFF", version(255, 255, b"")),
+        (b"ab", EdnsOptionData::Unknown { code: 65001, octets: b"ab" }),
+    ] {
+        assert_eq!(data.to_octets().unwrap(), octets, "{data:?}");
+        assert_eq!(EdnsOption { code: data.code(), octets }.data().unwrap(), data);
+    }
+    for (data, kind) in [
+        (subnet(1, 24, 0, b"\xC0"), ErrorKind::BadData),
+        (subnet(1, 33, 0, &[0; 5]), ErrorKind::BadFamily),
+        (subnet(1, 23, 0, b"\xC0\0\x03"), ErrorKind::BadFamily),
+        (cookie(b"1234567"), ErrorKind::BadData),
+        (version(1, 0, b"abc"), ErrorKind::BadData),
+        (EdnsOptionData::Unknown { code: 9, octets: b"a" }, ErrorKind::BadData),
+    ] {
+        assert_eq!(data.to_octets().unwrap_err().kind(), kind, "{data:?}");
+    }
+    for (code, octets, kind) in [
+        (9, &b"\0\0\0"[..], ErrorKind::BadData),
+        (13, b"\x01a", ErrorKind::BadData),
+        (15, b"\0\x01\xFF", ErrorKind::NotUtf8),
+        (18, b"", ErrorKind::BadData),
+    ] {
+        assert_eq!(EdnsOption { code, octets }.data().unwrap_err().kind(), kind);
+    }
+}
+
 #[test]
 fn data_fail_as_their_fields_do() {
     let mut state = 1035_u32;

@@ -1,5 +1,6 @@
 pub mod EdnsCalls
 pub mod OptionCalls
+pub mod OptionValues
 pub mod FieldCalls
 pub mod ListCalls
 pub mod MessageCalls

@@ -1,9 +1,9 @@
 -- The records of messages, and why none is read (RFC 1035, sections 3.2.1 and 4.1.3).
-use Rattle.std.specs.Prelude.{◌≡◌, ◌≢◌, ◌⊎◌, ℕ, ◌+◌, List, length, Result}
+use Rattle.std.specs.Prelude.{◌≡◌, ◌≢◌, ◌⊎◌, ◌<◌, ◌≤◌, ℕ, ◌+◌, List, length, Result}
 use Rattle.dnw_base.specs.declared.error.DecodeError.{DecodeError}
 use Rattle.dnw_base.specs.RecordTypes.{type_code}
 use Rattle.dnw_base.specs.DnsClasses.{class_code}
-use Rattle.dnw_base.specs.Limits.{max_name}
+use Rattle.dnw_base.specs.Limits.{max_message, max_name}
 use Rattle.dnw_base.specs.Names.{wire}
 use Rattle.dnw_name_read.specs.Reading.{NameAt}
 use Rattle.dnw_record.specs.DataCopies.{Copies, FailsToCopy, data_start, record_kinds}
@@ -58,10 +58,15 @@ failure_of_rdata Memory = why.NoMemory
 abbrev pub HasNoData : RecordValue → Failure → Type 0
 HasNoData r failure = (error : RDataError) × FailsToCopy (record_kinds r) (data_start r) error × (failure ≡ failure_of_rdata error)
 
--- The data of the record at an offset of a message are put, with every name in its wire form.
+-- with every name in its wire form they are longer than two octets can say (RFC 1035, section 3.2.1)
+abbrev pub HasTooLongData : RecordValue → Failure → Type 0
+HasTooLongData r failure =
+    (octets : List ℕ) × Copies (record_kinds r) (data_start r) octets × (max_message < length octets) × (failure ≡ why.DataTooLong)
+
+-- The data of the record at an offset of a message are put, with every name in its wire form: at most 65,535 octets.
 abbrev pub PutsWholeData : List ℕ → ℕ → List ℕ → List ℕ → Result ℕ Failure → Type 0
 PutsWholeData message start old new result =
     ((r : RecordValue) × (end : ℕ) × (octets : List ℕ) × RecordAt message start r end × Copies (record_kinds r) (data_start r) octets
-    × Puts octets (length octets) old new result)
+    × (length octets ≤ max_message) × Puts octets (length octets) old new result)
     ⊎ Refuses (λ failure. HasNoRecord message start failure
-    ⊎ ((r : RecordValue) × (end : ℕ) × RecordAt message start r end × HasNoData r failure)) old new result
+    ⊎ ((r : RecordValue) × (end : ℕ) × RecordAt message start r end × (HasNoData r failure ⊎ HasTooLongData r failure))) old new result

@@ -16,6 +16,8 @@ pub mod fields;
 mod listed;
 /// Whole messages.
 pub mod message;
+/// What EDNS options say.
+pub mod option_parts;
 /// EDNS options as text.
 pub mod options;
 /// Names that are given by their wire forms.

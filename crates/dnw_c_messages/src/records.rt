@@ -8,6 +8,7 @@ ghost use Rattle.dnw_c_messages.specs.RecordCalls.{HasNoData, PutsWholeData, Put
 
 use dnw_base::decoder::BinDecoder;
 use dnw_base::error::DecodeError;
+use dnw_base::limits::MAX_MESSAGE;
 use dnw_c_base::buffer::put;
 use dnw_c_base::failure::{Failure, of_decode};
 use dnw_c_base::names::{name_ref_at, put_name};
@@ -60,7 +61,8 @@ pub extern "C" fn dnw_record_data_name(
     report(data_name(message, data_offset, data_len, form), len)
 }
 
-/// Puts the data of the record at an offset of a message with every name in its wire form, and their length.
+/// Puts the data of the record at an offset of a message with every name in its wire form, and their length, which is at most
+/// 65,535.
 #[unsafe(no_mangle)]
 pub extern "C" fn dnw_record_data(
     alloc: Global,
@@ -134,6 +136,9 @@ fn whole_data(
 {
     let (record, _) = record_at(alloc, message, start)?;
     let data = copied(alloc, &record)?;
+    if data.octets().len() > MAX_MESSAGE as usize {
+        return Err(Failure::DataTooLong);
+    }
     put(octets, data.octets())
 }
 

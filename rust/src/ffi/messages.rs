@@ -17,6 +17,23 @@ pub(crate) fn read_edns(message: &[u8], max_pointers: usize) -> Result<Edns, Err
     outcome(number, edns)
 }
 
+/// Returns what an option says, in parts.
+pub(crate) fn read_option(code: u16, octets: &[u8]) -> Result<OptionParts, Error> {
+    let mut parts = OptionParts::default();
+    // SAFETY: a pointer with its length, see the module, and one to a struct of this type.
+    let number = unsafe { dnw_option_read(code, octets.as_ptr(), octets.len(), &mut parts) };
+    outcome(number, parts)
+}
+
+/// Appends the octets of an option that says this: the parts, and the octets after them.
+pub(crate) fn write_option(code: u16, parts: &OptionParts, own: &[u8], octets: &mut Vec<u8>) -> Result<(), Error> {
+    let (first, len) = (own.as_ptr(), own.len());
+    // SAFETY: a pointer to a struct of this type, and pointers with their lengths, see the module; and the room is not read.
+    append_put(octets, OPTION_HEAD + len, |room, size, octets_len| unsafe {
+        dnw_option_write(code, parts, first, len, room, size, octets_len)
+    })
+}
+
 /// Appends the text of an option, which is UTF-8.
 pub(crate) fn print_option(code: u16, octets: &[u8], text: &mut Vec<u8>) -> Result<(), Error> {
     let (first, len) = (octets.as_ptr(), octets.len());
