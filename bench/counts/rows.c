@@ -114,6 +114,23 @@ static void message_walk(void)
     }
 }
 
+/* The same by one call: a row for each record and each field, and their names whole. */
+static void table_read(void)
+{
+    struct dnw_row listed[32];
+    uint8_t names[512];
+    struct dnw_table table;
+    must(dnw_message_table(RESPONSE, RESPONSE_LEN, DNW_MAX_POINTERS, listed, COUNT(listed), names, sizeof names, &table));
+    bool counts = false;
+    for (size_t i = 0; i < table.row_count; i++) {
+        const struct dnw_row *row = &listed[i];
+        if (row->section != 0)
+            counts = row->section > 1 && row->record_type != DNW_TYPE_OPT;
+        if (counts)
+            sum += row->section != 0 ? row->name_len + row->record_type + row->number : row->kind == DNW_FIELD_NAME ? row->name_len : row->len;
+    }
+}
+
 static void message_pack(void)
 {
     uint8_t packed[512];
@@ -210,7 +227,7 @@ int main(int argc, char **argv)
     } rows[] = {
         {"name-read", name_read}, {"name-parse", name_parse}, {"name-print", name_print}, {"4-names-write", names_write},
         {"100-names-sort", names_sort}, {"message-read", message_read}, {"fields-walk", fields_walk}, {"message-walk", message_walk},
-        {"message-pack", message_pack}, {"answer-write", answer_write}, {"referral-write", referral_write}, {"nxdomain-write", nxdomain_write},
+        {"table-read", table_read}, {"message-pack", message_pack}, {"answer-write", answer_write}, {"referral-write", referral_write}, {"nxdomain-write", nxdomain_write},
         {"record-print", record_print}, {"signed-one", signed_one}, {"types-read", types_read},
         {"8-records-parse", records_parse}, {"8-entries-read", entries_read},
     };

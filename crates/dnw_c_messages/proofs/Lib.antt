@@ -1,5 +1,6 @@
 mod Taken
 mod RecordEnds
+mod RecordReads
 pub mod TypeCodes
 mod Forms
 mod Items

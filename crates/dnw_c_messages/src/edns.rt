@@ -1,14 +1,17 @@
 //! What messages say by EDNS.
-ghost use Rattle.std.specs.Prelude.{◌≡◌, IfOk, IfErr};
+ghost use Rattle.std.specs.Prelude.{◌≡◌, ◌+◌, ◌*◌, ◌%◌, ◌^◌, IfOk, IfErr};
+ghost use Rattle.dnw_message_read.specs.Edns.{high_bits};
+ghost use Rattle.dnw_message_read.specs.ResponseCodes.{response_code, response_of_code};
 ghost use Rattle.dnw_c_base.specs.Results.{Returns};
-ghost use Rattle.dnw_c_messages.specs.EdnsCalls.{FailsToSay, IsReadEdns, ReadsEdns, of_edns};
+ghost use Rattle.dnw_c_messages.specs.EdnsCalls.{FailsToSay, IsReadEdns, ReadsEdns, of_edns, read_edns};
 
 use crate::message::of_message;
 use dnw_base::limits::MIN_PAYLOAD;
 use dnw_c_base::failure::{Failure, of_decode};
 use dnw_c_base::results::report;
-use dnw_message_read::edns::EdnsError;
+use dnw_message_read::edns::{EdnsError, EdnsRef};
 use dnw_message_read::message::MessageRef;
+use dnw_message_read::response_code::ResponseCode;
 
 /// What a message says by EDNS, and its response code. The octets of its options are so many from an offset on.
 #[repr(C)]
@@ -32,6 +35,7 @@ pub extern "C" fn dnw_edns_read(message: &[u8], max_pointers: usize, found: &mut
 }
 
 /// Reads a message, and returns what it says by EDNS.
+#[inline(always)]
 fn read(octets: &[u8], max_pointers: usize) -> Result<ReadEdns, Failure>
     ensures { ReadsEdns octets.now max_pointers result }
 {
@@ -42,35 +46,51 @@ fn read(octets: &[u8], max_pointers: usize) -> Result<ReadEdns, Failure>
 }
 
 /// Returns what a message says by EDNS.
+#[inline(always)]
 fn said_by(message: &MessageRef<'_>) -> Result<ReadEdns, Failure>
     ensures ok { IfOk result (IsReadEdns message.now) }
     ensures err { IfErr result (FailsToSay message.now) }
 {
-    let response_code = match message.response_code() {
-        Ok(code) => u16::from(code),
-        Err(error) => return Err(of_edns(&error)),
-    };
     match message.edns() {
-        Ok(Some(edns)) => Ok(ReadEdns {
+        Ok(edns) => Ok(said(message.header().metadata.response_code, &edns)),
+        Err(error) => Err(of_edns(&error)),
+    }
+}
+
+/// Returns what C learns of this EDNS, in a message whose header has a response code.
+#[inline(always)]
+fn said(code: ResponseCode, edns: &Option<EdnsRef<'_>>) -> ReadEdns
+    ensures { result ≡ read_edns edns.now (response_of_code (response_code code % 16 + high_bits edns.now * 2 ^ 4)) }
+{
+    match edns {
+        Some(edns) => ReadEdns {
             is_present: true,
             dnssec_ok: edns.dnssec_ok(),
             version: edns.version(),
             max_payload: edns.max_payload(),
-            response_code,
+            response_code: whole_code(code, edns.rcode_high()),
             options_offset: edns.options_offset(),
             options_len: edns.options_len(),
-        }),
-        Ok(None) => Ok(ReadEdns {
+        },
+        None => ReadEdns {
             is_present: false,
             dnssec_ok: false,
             version: 0,
             max_payload: MIN_PAYLOAD,
-            response_code,
+            response_code: whole_code(code, 0),
             options_offset: 0,
             options_len: 0,
-        }),
-        Err(error) => Err(of_edns(&error)),
+        },
     }
+}
+
+/// Returns the number of a response code with these high bits.
+#[inline(always)]
+fn whole_code(code: ResponseCode, high: u8) -> u16
+    ensures { result ≡ response_code (response_of_code (response_code code % 16 + high * 2 ^ 4)) }
+{
+    let low = u16::from(code) % 16;
+    u16::from(ResponseCode::from(low + (u16::from(high) << 4)))
 }
 
 /// Returns the failure that stands for a rule of EDNS that is broken.

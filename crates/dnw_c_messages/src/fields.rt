@@ -1,8 +1,9 @@
 //! The fields of the data of records, of which the caller keeps an offset and a number.
-ghost use Rattle.std.specs.Prelude.{◌≡◌, ◌≤◌, ◌+◌, ◌-◌, ◌^◌, length, IfOk, IfErr};
+ghost use Rattle.std.specs.Prelude.{◌≡◌, ◌≤◌, ◌+◌, ◌-◌, ◌^◌, length, IfOk, IfErr, IfSome};
 ghost use Rattle.dnw_data.specs.Fields.{FailsField};
 ghost use Rattle.dnw_c_base.specs.Offsets.{at_offset};
 ghost use Rattle.dnw_c_base.specs.Results.{Returns};
+ghost use Rattle.dnw_c_messages.specs.Inside.PlainFields.{IsPlainSize};
 ghost use Rattle.dnw_c_messages.specs.FieldCalls.{EndsAt, FailsToTakeField, ReadsNextField, TakesAs, field_kind, head_of};
 
 use dnw_base::decoder::BinDecoder;
@@ -51,6 +52,7 @@ pub extern "C" fn dnw_field_next(
 }
 
 /// Returns the next field, and where the one after it is.
+#[inline(always)]
 fn next(
     message: &[u8],
     start: usize,
@@ -81,6 +83,7 @@ fn next(
 }
 
 /// Returns the field of a kind, and where the one after it is.
+#[inline(always)]
 fn take(kind: Kind, message: &[u8], at: FieldCursor) -> Result<(ReadField, FieldCursor), Failure>
     requires within { at.offset ≤ length message.now }
     requires few { at.number + 1 ≤ 2 ^ 64 - 1 }
@@ -102,7 +105,40 @@ fn take(kind: Kind, message: &[u8], at: FieldCursor) -> Result<(ReadField, Field
 }
 
 /// Returns where the field of a kind ends that begins at an offset.
+#[inline(always)]
 fn end_of(kind: Kind, message: &[u8], offset: usize) -> Result<usize, DecodeError>
+    requires { offset ≤ length message.now }
+    ensures ok { IfOk result (EndsAt kind message.now offset) }
+    ensures head { IfOk result (λ end. offset + head_of kind ≤ end) }
+    ensures err { IfErr result (FailsField kind (at_offset message.now offset)) }
+{
+    let left = &message[offset..];
+    match plain_size(kind, left) {
+        Some(size) if left.len() < size => Err(DecodeError::InsufficientBytes),
+        Some(size) => Ok(offset + size),
+        None => read_end(kind, message, offset),
+    }
+}
+
+/// Returns how many octets a field takes of those that are left, if any octets of that number are one.
+#[inline(always)]
+fn plain_size(kind: Kind, left: &[u8]) -> Option<usize>
+    ensures { IfSome result (IsPlainSize kind left.now) }
+{
+    match kind {
+        Kind::U8 => Some(1),
+        Kind::U16 | Kind::TypeCode | Kind::ChaosAddress => Some(2),
+        Kind::U32 | Kind::Ipv4 | Kind::Time => Some(4),
+        Kind::U48 | Kind::LongTime => Some(6),
+        Kind::U64 | Kind::Locator => Some(8),
+        Kind::Ipv6 => Some(16),
+        Kind::Octets(_) => Some(left.len()),
+        _ => None,
+    }
+}
+
+/// Reads the field of a kind at an offset, and returns where it ends.
+fn read_end(kind: Kind, message: &[u8], offset: usize) -> Result<usize, DecodeError>
     requires { offset ≤ length message.now }
     ensures ok { IfOk result (EndsAt kind message.now offset) }
     ensures head { IfOk result (λ end. offset + head_of kind ≤ end) }

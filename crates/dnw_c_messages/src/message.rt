@@ -61,6 +61,7 @@ pub extern "C" fn dnw_message_read(
 }
 
 /// Reads a message, and returns what C learns of it. If that fails, it puts where the message goes wrong.
+#[inline(always)]
 fn read(
     octets: &[u8],
     max_pointers: usize,
@@ -78,6 +79,7 @@ fn read(
 }
 
 /// Returns what C learns of a message.
+#[inline(always)]
 fn found_in(message: &MessageRef<'_>) -> ReadMessage
     ensures { (offsets : SectionOffsets) × SectionsBegin message.now offsets × (result ≡ read_message message.now offsets) }
 {

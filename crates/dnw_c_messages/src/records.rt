@@ -1,10 +1,12 @@
 //! The records of messages.
 ghost use Rattle.std.specs.Prelude.{◌≡◌, IfOk, IfErr};
-ghost use Rattle.dnw_record.specs.Records.{FailsRecord, RecordAt};
+ghost use Rattle.dnw_base.specs.declared.error.DecodeError.{DecodeError};
+ghost use Rattle.dnw_record.specs.Records.{FailsRecord, HasRest, RecordAt};
 ghost use Rattle.dnw_c_base.specs.Offsets.{at_offset};
 ghost use Rattle.dnw_c_base.specs.Results.{Returns};
 ghost use Rattle.dnw_record.specs.DataCopies.{Copies, data_start, record_kinds};
 ghost use Rattle.dnw_c_messages.specs.RecordCalls.{HasNoData, PutsWholeData, PutsDataName, ReadsRecord, failure_of_rdata};
+ghost use Rattle.dnw_c_messages.specs.Inside.RecordRests.{rest_at};
 
 use dnw_base::decoder::BinDecoder;
 use dnw_base::error::DecodeError;
@@ -14,8 +16,9 @@ use dnw_c_base::failure::{Failure, of_decode};
 use dnw_c_base::names::{name_ref_at, put_name};
 use dnw_c_base::results::report;
 use dnw_name::binary::BinDecodable;
+use dnw_name::name_ref::NameRef;
 use dnw_record::rdata::{RData, RDataError};
-use dnw_record::record_ref::RecordRef;
+use dnw_record::record_ref::{FIXED_SIZE, RecordRef};
 use std::alloc::Global;
 
 /// A record that was read: the number of bytes of its owner that were put, its type, class and time to live, the offset and
@@ -35,7 +38,6 @@ pub struct ReadRecord {
 /// Reads the record at an offset of a message, and puts its owner's wire form. It does not allocate.
 #[unsafe(no_mangle)]
 pub extern "C" fn dnw_record_read(
-    alloc: Global,
     message: &[u8],
     start: usize,
     owner: &mut [u8],
@@ -43,7 +45,7 @@ pub extern "C" fn dnw_record_read(
 ) -> u32
     ensures { Returns (ReadsRecord message.now start owner.old owner.new) found.old found.new result }
 {
-    report(read(alloc, message, start, owner), found)
+    report(read(message, start, owner), found)
 }
 
 /// Reads the octets of a record's data, or the last ones of them, as a name, and puts its wire form and its length. It does
@@ -77,20 +79,36 @@ pub extern "C" fn dnw_record_data(
 }
 
 /// Reads the record at an offset, and puts its owner's wire form.
-fn read(alloc: Global, message: &[u8], start: usize, form: &mut [u8]) -> Result<ReadRecord, Failure>
+#[inline(always)]
+fn read(message: &[u8], start: usize, form: &mut [u8]) -> Result<ReadRecord, Failure>
     ensures { ReadsRecord message.now start form.old form.new result }
 {
-    let (record, end) = record_at(alloc, message, start)?;
-    let owner_len = put_name(form, record.owner())?;
-    let data_len = record.rdata().len();
+    let mut reader = BinDecoder::new(message);
+    reader.skip(start)?;
+    let owner = NameRef::read(&mut reader)?;
+    let mut found = read_rest(&mut reader)?;
+    found.owner_len = put_name(form, &owner)?;
+    Ok(found)
+}
+
+/// Reads the fields of a record after its owner, and moves past the data. Returns what C learns, but of the owner.
+#[inline(always)]
+fn read_rest(reader: &mut BinDecoder<'_>) -> Result<ReadRecord, DecodeError>
+    ensures ok { IfOk result (λ found. HasRest reader.old.bytes reader.old.index × (found ≡ rest_at reader.old.bytes reader.old.index)) }
+    ensures err { IfErr result (λ e. (¬ (HasRest reader.old.bytes reader.old.index)) × (e ≡ DecodeError.InsufficientBytes)) }
+{
+    let fixed = reader.read_slice(FIXED_SIZE)?.unverified();
+    let data_offset = reader.index();
+    let data_len = u16::from_be_bytes([fixed[8], fixed[9]]) as usize;
+    reader.skip(data_len)?;
     Ok(ReadRecord {
-        owner_len,
-        record_type: u16::from(record.record_type()),
-        record_class: u16::from(record.class()),
-        ttl: record.ttl(),
-        data_offset: end - data_len,
+        owner_len: 0,
+        record_type: u16::from_be_bytes([fixed[0], fixed[1]]),
+        record_class: u16::from_be_bytes([fixed[2], fixed[3]]),
+        ttl: u32::from_be_bytes([fixed[4], fixed[5], fixed[6], fixed[7]]),
+        data_offset,
         data_len,
-        end,
+        end: reader.index(),
     })
 }
 

@@ -20,6 +20,7 @@ use dnw_name::name_ref::NameRef;
 use dnw_name_read::walk::ReadSteps;
 
 /// Puts rows of the fields of these kinds, which are read from the cursor up to the end, and of a fault if they do not end there.
+#[inline(always)]
 pub(crate) fn list_fields(
     kinds: &[Kind],
     mut reader: BinDecoder<'_>,
@@ -48,6 +49,7 @@ pub(crate) fn list_fields(
 
 /// Puts rows of the field of this kind that is read at the cursor, and of its entries if it is a list. Returns `false` if there is none,
 /// for which it puts a row too.
+#[inline(always)]
 fn list_field(
     kind: Kind,
     reader: &mut BinDecoder<'_>,
@@ -68,6 +70,7 @@ fn list_field(
 }
 
 /// Does so for a name.
+#[inline(always)]
 fn list_name_field(
     kind: Kind,
     reader: &mut BinDecoder<'_>,
@@ -97,6 +100,7 @@ fn list_name_field(
 }
 
 /// Does so for another field.
+#[inline(always)]
 fn list_own_field(
     kind: Kind,
     reader: &mut BinDecoder<'_>,
@@ -126,6 +130,7 @@ fn list_own_field(
 }
 
 /// Reads a name, and counts the pointers that it follows.
+#[inline(always)]
 fn read_name<'r>(reader: &mut BinDecoder<'r>, steps: &mut ReadSteps) -> Result<NameRef<'r>, Failure>
     ensures ok { IfOk result (λ name. TakesName reader.old reader.new name steps.new.pointers) }
     ensures err { IfErr result (λ failure. (error : DecodeError) × FailsName reader.old error × (failure ≡ of_decode error)) }
@@ -135,6 +140,7 @@ fn read_name<'r>(reader: &mut BinDecoder<'r>, steps: &mut ReadSteps) -> Result<N
 }
 
 /// Reads a field.
+#[inline(always)]
 fn read_field<'r>(kind: Kind, reader: &mut BinDecoder<'r>) -> Result<Field<'r>, Failure>
     ensures ok { IfOk result (λ field. TakesField kind reader.old (seen field) reader.new) }
     ensures err { IfErr result (λ failure. (error : DecodeError) × FailsField kind reader.old error × (failure ≡ of_decode error)) }
@@ -144,6 +150,7 @@ fn read_field<'r>(kind: Kind, reader: &mut BinDecoder<'r>) -> Result<Field<'r>, 
 }
 
 /// Puts rows of the entries of a field that ends at an offset, if it is a list.
+#[inline(always)]
 fn list_value(
     field: &Field<'_>,
     end: usize,
@@ -164,6 +171,7 @@ fn list_value(
 }
 
 /// Returns the list that a field is, if it is one.
+#[inline(always)]
 fn items_of<'r>(field: &Field<'r>) -> Option<Items<'r>>
     ensures { (end : ℕ) → MatchOption result (entries_of (seen field.now) end ≡ [])
         (λ items. entries_of (seen field.now) end ≡ entries items end ∷ []) }

@@ -44,6 +44,7 @@ pub struct Listed {
 }
 
 /// Puts a row.
+#[inline(always)]
 pub(crate) fn list_row(row: TableRow, rows: &mut [TableRow], at: &mut Listed) -> Result<(), Failure>
     requires { at.old.row_count ≤ length rows.old }
     ensures ok { OnOk result (RowsAdvance rows.old rows.new at.old at.new (λ l. with_row l row)) }
@@ -59,6 +60,7 @@ pub(crate) fn list_row(row: TableRow, rows: &mut [TableRow], at: &mut Listed) ->
 }
 
 /// Puts a name that followed so many pointers, and a row with its place.
+#[inline(always)]
 pub(crate) fn list_name(
     name: &NameRef<'_>,
     pointers: usize,
@@ -88,6 +90,7 @@ pub(crate) fn list_name(
 }
 
 /// Returns a row of data, of this kind and with this number.
+#[inline(always)]
 pub(crate) fn data_row(kind: u32, number: u32, offset: usize, len: usize) -> TableRow
     ensures { result ≡ data_row kind number offset len }
 {
@@ -105,6 +108,7 @@ pub(crate) fn data_row(kind: u32, number: u32, offset: usize, len: usize) -> Tab
 }
 
 /// Returns the row of a field that goes from `start` to `end`.
+#[inline(always)]
 pub(crate) fn field_row(kind: Kind, start: usize, end: usize) -> TableRow
     requires { start + head_of kind ≤ end }
     ensures { result ≡ field_row kind start end }

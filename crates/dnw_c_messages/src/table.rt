@@ -59,6 +59,7 @@ pub extern "C" fn dnw_message_table(
 }
 
 /// Puts the rows of a message and its names.
+#[inline(always)]
 fn list(
     message: &[u8],
     max_pointers: usize,
@@ -82,6 +83,7 @@ fn list(
 }
 
 /// Returns how many items the sections of a message have.
+#[inline(always)]
 fn read_counts(message: &[u8]) -> Result<HeaderCounts, Failure>
     ensures ok { IfOk result (λ counts. (header_size ≤ length message.now) × (counts ≡ (header_of (slice_range message.now 0 header_size)).counts)) }
     ensures err { IfErr result (λ failure. (length message.now < header_size) × (failure ≡ MessageCut)) }
@@ -93,6 +95,7 @@ fn read_counts(message: &[u8]) -> Result<HeaderCounts, Failure>
 }
 
 /// Returns a decoder of a message after the header.
+#[inline(always)]
 fn after_header(message: &[u8]) -> BinDecoder<'_>
     requires { header_size ≤ length message.now }
     ensures { result ≡ record { bytes = message.now; index = header_size } }
@@ -159,6 +162,7 @@ fn list_items(
 }
 
 /// Puts rows of the first of the items that are left of a section.
+#[inline(always)]
 fn list_item(
     section: Section,
     reader: &mut BinDecoder<'_>,
@@ -179,6 +183,7 @@ fn list_item(
 }
 
 /// Puts the row of the question at the cursor.
+#[inline(always)]
 fn list_question(
     reader: &mut BinDecoder<'_>,
     rows: &mut [TableRow],
@@ -198,6 +203,7 @@ fn list_question(
 }
 
 /// Puts the rows of the record at the cursor, and of the fields of its data.
+#[inline(always)]
 fn list_record(
     section: Section,
     reader: &mut BinDecoder<'_>,
@@ -222,6 +228,7 @@ fn list_record(
 }
 
 /// Reads the fields of a question after its name, and returns its row.
+#[inline(always)]
 fn read_question(reader: &mut BinDecoder<'_>) -> Result<TableRow, DecodeError>
     ensures ok { IfOk result (λ row. HasLeft reader.old 4 × (reader.new ≡ advanced reader.old 4) × (row ≡ question_row reader.old.bytes reader.old.index)) }
     ensures err { IfErr result (λ e. (¬ (HasLeft reader.old 4)) × (e ≡ DecodeError.InsufficientBytes)) }
@@ -231,6 +238,7 @@ fn read_question(reader: &mut BinDecoder<'_>) -> Result<TableRow, DecodeError>
 }
 
 /// Reads the fields of a record after its owner, moves past the data, and returns its row.
+#[inline(always)]
 fn read_record(section: Section, reader: &mut BinDecoder<'_>) -> Result<TableRow, DecodeError>
     ensures ok { IfOk result (λ row. HasLeft reader.old (record_rest reader.old.bytes reader.old.index)
         × (reader.new ≡ advanced reader.old (record_rest reader.old.bytes reader.old.index))
@@ -246,6 +254,7 @@ fn read_record(section: Section, reader: &mut BinDecoder<'_>) -> Result<TableRow
 }
 
 /// Returns the row of an item with these fields after its name.
+#[inline(always)]
 fn item_row(section: u32, fixed: &[u8], ttl: u32, offset: usize, len: usize) -> TableRow
     requires { 4 ≤ length fixed.now }
     ensures { result ≡ item_row section fixed.now ttl offset len }
@@ -264,6 +273,7 @@ fn item_row(section: u32, fixed: &[u8], ttl: u32, offset: usize, len: usize) -> 
 }
 
 /// Returns a decoder at the data of a record, which ends with them.
+#[inline(always)]
 fn data_of(row: TableRow, message: &[u8]) -> BinDecoder<'_>
     requires { row.offset + row.len ≤ length message.now }
     ensures { result ≡ record { bytes = slice_range message.now 0 (row.offset + row.len); index = row.offset } }
@@ -274,6 +284,7 @@ fn data_of(row: TableRow, message: &[u8]) -> BinDecoder<'_>
 }
 
 /// Returns the kinds of the fields of the data of a record.
+#[inline(always)]
 fn kinds_of(row: TableRow, message: &[u8]) -> &'static [Kind]
     requires { row.offset + row.len ≤ length message.now }
     ensures { result.now ≡ fields_of (class_code (class_of_code row.record_class)) (type_code (type_of_code row.record_type))

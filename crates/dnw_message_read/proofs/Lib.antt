@@ -1,6 +1,7 @@
 pub mod Headers
 pub mod Starts
 pub mod InTurn
+pub mod Pointed
 pub mod Whole
 pub mod Lending
 pub mod OneMessage

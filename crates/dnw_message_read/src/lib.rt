@@ -9,8 +9,8 @@
 //! ```text
 //! MessageRef::read, read_limited                                    dnw_message_read
 //!     |-- read_header -- Header::from_octets
-//!     |-- pass_section, for each of the four: each item is passed over, and its name is walked once; pointers are counted, and
-//!     |       OPT records are noticed
+//!     |-- pass_section, for each of the four: each item is passed over, and its name is walked once, or not at all if it points
+//!     |       to the name of the item before; pointers are counted, and OPT records are noticed
 //!     v
 //! MessageRef { header, where sections begin, end, two flags }        lends its items
 //!     |-- queries -- QueryRef::read_next                            each iterator reads again what was checked

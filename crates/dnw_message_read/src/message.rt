@@ -10,7 +10,7 @@ use crate::edns::{EdnsError, EdnsRef, next_opt};
 use crate::error::{MessageError, MessageErrorKind, Section};
 use crate::header::Header;
 use crate::items::{Queries, Records};
-use crate::passing::pass_section;
+use crate::passing::{Known, pass_section};
 use crate::response_code::ResponseCode;
 use dnw_base::decoder::BinDecoder;
 use dnw_base::error::DecodeError;
@@ -82,17 +82,30 @@ impl<'m> MessageRef<'m> {
     {
         let header = read_header(octets)?;
         let counts = header.counts;
-        let mut left = max_pointers;
+        let (mut left, mut known) = (max_pointers, Known::NONE);
         let mut reader = reader_at(octets, Header::LEN);
-        pass_section(&mut reader, Section::Queries, counts.queries, &mut left)?;
+        pass_section(
+            &mut reader,
+            Section::Queries,
+            counts.queries,
+            &mut left,
+            &mut known,
+        )?;
         let answers = reader.index();
-        let in_answers = pass_section(&mut reader, Section::Answers, counts.answers, &mut left)?;
+        let in_answers = pass_section(
+            &mut reader,
+            Section::Answers,
+            counts.answers,
+            &mut left,
+            &mut known,
+        )?;
         let authorities = reader.index();
         let in_authorities = pass_section(
             &mut reader,
             Section::Authorities,
             counts.authorities,
             &mut left,
+            &mut known,
         )?;
         let additionals = reader.index();
         let in_additionals = pass_section(
@@ -100,6 +113,7 @@ impl<'m> MessageRef<'m> {
             Section::Additionals,
             counts.additionals,
             &mut left,
+            &mut known,
         )?;
         Ok(MessageRef {
             message: octets,
@@ -268,6 +282,7 @@ impl<'m> MessageRef<'m> {
 }
 
 /// Reads the header at the start of these octets.
+#[inline(always)]
 fn read_header(octets: &[u8]) -> Result<Header, MessageError>
     ensures ok { IfOk result (λ h. (header_size ≤ length octets.now) × (h ≡ header_of (slice_range octets.now 0 header_size))) }
     ensures err { IfErr result (λ e. (length octets.now < header_size) × (e ≡ no_header)) }

@@ -1,7 +1,11 @@
 -- What the walk over a message's items knows.
-use Rattle.std.specs.Prelude.{◌≡◌, ℕ, ◌+◌, Bool, false, List, length}
+use Rattle.std.specs.Prelude.{◌≡◌, ℕ, suc, ◌+◌, ◌-◌, ◌*◌, ◌<◌, ◌≤◌, nat_le, nat_lt, if◌then◌else◌, Bool, false, Some, List, length, slice_get}
 use Rattle.std.specs.List.{list_any}
 use Rattle.dnw_base.specs.Decoder.{Decoder}
+use Rattle.dnw_base.specs.Limits.{max_name, pointer_offsets}
+use Rattle.dnw_base.specs.Names.{encoded_size}
+use Rattle.dnw_name_read.specs.Reading.{Reads}
+use Rattle.dnw_message_read.specs.declared.passing.Known.{Known}
 use Rattle.dnw_message_read.specs.declared.error.MessageError.{MessageError}
 use Rattle.dnw_message_read.specs.declared.error.Section.{Section}
 use Rattle.dnw_message_read.specs.declared.error.Section.TheVariants as section
@@ -43,3 +47,35 @@ pub record FailsOne (section : Section) (item : ℕ) (before : Decoder) (left : 
   pub item_is : error.item ≡ item
   pub offset_is : error.offset ≡ before.index
   pub why : FailsHere (rest_of section) before.bytes before.index left error.kind
+
+-- ---- pointers that are known
+
+-- the least number that the two octets of a pointer are (section 4.1.4)
+abbrev pub first_pointer : ℕ
+first_pointer = 49152
+
+-- These two octets are at p, the high one first.
+abbrev pub IsPointer : List ℕ → ℕ → ℕ → Type 0
+IsPointer b p octets =
+    (high : ℕ) × (low : ℕ) × (slice_get b p ≡ Some high) × (slice_get b (p + 1) ≡ Some low) × (low < 256) × (octets ≡ high * 256 + low)
+
+-- A name at p that is a pointer to t follows k pointers.
+pub record LeadsFrom (b : List ℕ) (p t k : ℕ) : Type 0 where
+  pub labels : List (List ℕ)
+  pub end : ℕ
+  pub further : ℕ
+  pub prior : t < p
+  pub reads : Reads b t t (Some p) labels end further
+  pub fits : encoded_size labels ≤ max_name
+  pub counted : k ≡ suc further
+
+-- What is known of a pointer holds of a name at p: nothing of a number that is none.
+abbrev pub IsKnown : List ℕ → ℕ → Known → Type 0
+IsKnown b p known = first_pointer ≤ known.pointer → LeadsFrom b p (known.pointer - first_pointer) known.followed
+
+-- what is known after a name at p that begins with these two octets and follows k pointers
+abbrev pub known_after : ℕ → ℕ → ℕ → Known
+known_after octets p k =
+    if nat_le first_pointer octets then record { pointer = octets; followed = k }
+    else if nat_lt p pointer_offsets then record { pointer = first_pointer + p; followed = k + 1 }
+    else record { pointer = 0; followed = 0 }
