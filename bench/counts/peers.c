@@ -300,9 +300,9 @@ int main(int argc, char **argv)
     } rows[] = {
         {"name-read", knot_name_read, ldns_name_read}, {"name-parse", knot_name_parse, ldns_name_parse},
         {"name-print", knot_name_print, ldns_name_print}, {"100-names-sort", knot_sort, ldns_sort},
-        {"message-walk", knot_walk, ldns_walk}, {"table-read", knot_walk, ldns_walk}, {"message-pack", knot_pack, ldns_pack}, {"answer-write", knot_answer, NULL},
-        {"referral-write", knot_referral, NULL}, {"nxdomain-write", knot_nxdomain, NULL}, {"record-print", knot_print, ldns_print},
-        {"8-records-parse", knot_lines, ldns_lines}, {"8-entries-read", knot_lines, ldns_lines},
+        {"message-walk", knot_walk, ldns_walk}, {"table-read", knot_walk, ldns_walk}, {"message-pack", knot_pack, ldns_pack},
+        {"answer-write", knot_answer, NULL}, {"referral-write", knot_referral, NULL}, {"nxdomain-write", knot_nxdomain, NULL},
+        {"record-print", knot_print, ldns_print}, {"8-records-parse", knot_lines, ldns_lines}, {"8-entries-read", knot_lines, ldns_lines},
     };
     begin();
     make_sets(&answer, ANSWER, COUNT(ANSWER));

@@ -127,7 +127,9 @@ static void table_read(void)
         if (row->section != 0)
             counts = row->section > 1 && row->record_type != DNW_TYPE_OPT;
         if (counts)
-            sum += row->section != 0 ? row->name_len + row->record_type + row->number : row->kind == DNW_FIELD_NAME ? row->name_len : row->len;
+            sum += row->section != 0              ? row->name_len + row->record_type + row->number
+                   : row->kind == DNW_FIELD_NAME ? row->name_len
+                                                 : row->len;
     }
 }
 
@@ -227,8 +229,8 @@ int main(int argc, char **argv)
     } rows[] = {
         {"name-read", name_read}, {"name-parse", name_parse}, {"name-print", name_print}, {"4-names-write", names_write},
         {"100-names-sort", names_sort}, {"message-read", message_read}, {"fields-walk", fields_walk}, {"message-walk", message_walk},
-        {"table-read", table_read}, {"message-pack", message_pack}, {"answer-write", answer_write}, {"referral-write", referral_write}, {"nxdomain-write", nxdomain_write},
-        {"record-print", record_print}, {"signed-one", signed_one}, {"types-read", types_read},
+        {"table-read", table_read}, {"message-pack", message_pack}, {"answer-write", answer_write}, {"referral-write", referral_write},
+        {"nxdomain-write", nxdomain_write}, {"record-print", record_print}, {"signed-one", signed_one}, {"types-read", types_read},
         {"8-records-parse", records_parse}, {"8-entries-read", entries_read},
     };
     if (argc != 3) {

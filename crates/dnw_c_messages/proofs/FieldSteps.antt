@@ -20,7 +20,8 @@ use Rattle.dnw_c_messages.specs.Inside.Sheets.{FillsTo, Fits, Goes, HaltsOn, Row
 use Rattle.dnw_c_messages.specs.declared.rows.Listed.{Listed}
 use Rattle.dnw_c_messages.specs.declared.rows.TableRow.{TableRow}
 use Rattle.dnw_c_messages.proofs.Steps.{goes_quietly, goes_step, halts_step, halts_task, no_row}
-use Rattle.dnw_c_messages.proofs.Taken.{past_head}
+use Rattle.dnw_c_messages.specs.Inside.PlainFields.{IsPlainSize}
+use Rattle.dnw_c_messages.proofs.Taken.{past_head, plain_taken}
 
 -- ---- kinds
 
@@ -135,6 +136,29 @@ module _ (kind : Kind) (d after : Decoder) (value : FieldValue) (p e : ℕ) (own
       → (kinds : List Kind) (b : List ℕ) (q : ℕ) → HaltsOn b (fields (kind ∷ kinds) d ∷ []) q (sheet rows names at) failure
   own_halts rows names at failure (none, full) kinds b q =
       halts_step (own_field own (own_taken kind d after value own h)) (no_row rows names at (field_row kind d.index after.index) full) none
+
+-- ---- a field that any octets are
+
+module _ (kind : Kind) (d : Decoder) (n : ℕ) (plain : IsPlainSize kind (length d.bytes - d.index) n) (left : HasLeft d n) where
+  its_field : TakesField kind d (own_value kind (own_at kind d)) (advanced d n)
+  its_field = plain_taken kind d n plain left
+
+  pub plain_halts : (rows : List TableRow) (names : List ℕ) (at : Listed) (failure : Failure) → (failure ≡ NoRoom) × (at.row_count ≡ length rows)
+      → (kinds : List Kind) (b : List ℕ) (q : ℕ) → HaltsOn b (fields (kind ∷ kinds) d ∷ []) q (sheet rows names at) failure
+  plain_halts rows names at failure full =
+      own_halts kind d (advanced d n) (own_value kind (own_at kind d)) d.index (d.index + n) plain.own its_field refl refl rows names at failure full
+
+module _ (kind : Kind) (d after : Decoder) (n : ℕ) (plain : IsPlainSize kind (length d.bytes - d.index) n) (left : HasLeft d n)
+    (moved : after ≡ advanced d n) where
+  pub plain_goes : (p e : ℕ) → p ≡ d.index → e ≡ after.index → (row : TableRow) → row ≡ field_row kind p e → (rows new : List TableRow) (names : List ℕ) (at later : Listed)
+      → Fits (sheet rows names at) → RowsAdvance rows new at later (λ l. with_row l row) → (kinds : List Kind) (b : List ℕ) (q : ℕ)
+      → Goes b (fields (kind ∷ kinds) d ∷ []) q (sheet rows names at) (fields kinds after ∷ []) q (sheet new names later)
+  plain_goes p e start end row is rows new names at later fits puts kinds b q =
+      let value = own_value kind (own_at kind d) in
+      let field : TakesField kind d value after = subst (TakesField kind d value) (sym moved) (plain_taken kind d n plain left) in
+      subst (λ ts. Goes b (fields (kind ∷ kinds) d ∷ []) q (sheet rows names at) (ts ++ fields kinds after ∷ []) q (sheet new names later))
+      (plain.no_list (own_at kind d) e)
+      (own_goes kind d after value p e plain.own field start end row rows new names at later is fits puts kinds b q)
 
 -- ---- the end of the data
 

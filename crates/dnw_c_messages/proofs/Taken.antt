@@ -1,12 +1,12 @@
 -- A field that is read at an offset of a message.
-use Rattle.std.proofs.Common.{◌≡◌, ℕ, ◌+◌, ◌-◌, ◌≤◌, List, [], ◌∷◌, length, drop, take, Result, Ok, Err, refl, ap, ◌∙◌, subst, arith}
+use Rattle.std.proofs.Common.{◌≡◌, ℕ, ◌+◌, ◌-◌, ◌<◌, ◌≤◌, List, [], ◌∷◌, length, drop, Result, Ok, Err, inl, refl, sym, ap, ◌∙◌, subst, arith}
 use Rattle.std.specs.Prelude.{⊤}
-use Rattle.std.proofs.lemmas.List.{length-drop, take_all}
+use Rattle.std.proofs.lemmas.List.{length-drop}
 use Rattle.dnw_base.specs.declared.error.DecodeError.{DecodeError}
 use Rattle.dnw_base.specs.declared.error.DecodeError.TheVariants.{InsufficientBytes}
 use Rattle.dnw_base.specs.Decoder.{Decoder, HasLeft, Takes, advanced}
 use Rattle.dnw_data.proofs.Taking.{moves_on}
-use Rattle.dnw_data.specs.Fields.{TakesField, TakesOwn, own_at, size_at}
+use Rattle.dnw_data.specs.Fields.{FailsField, FailsOwn, TakesField, TakesOwn, own_at, size_at}
 use Rattle.dnw_data.specs.Values.{FieldValue, long_counted_size, own_value}
 use Rattle.dnw_data.proofs.Shaping.{long_is}
 use Rattle.dnw_data.specs.declared.kind.Kind.{Kind}
@@ -57,12 +57,34 @@ own_taken : (kind : Kind) (d after : Decoder) (v : FieldValue) → IsOwnKind kin
 own_taken (kinds.Name form) d after v own h = absurd own
 own_taken kind d after v own h = h
 
-pub plain_ends : (kind : Kind) (message : List ℕ) (p n : ℕ) → IsPlainSize kind (take (length message - p) (drop p message)) n
-    → n ≤ length (take (length message - p) (drop p message)) → p ≤ length message → EndsAt kind message p (p + n)
-plain_ends kind message p n plain within inside =
-    let d = at_offset message p in
-    let all = take_all (length message - p) (drop p message) (omega (arith, length-drop p message)) in
-    let (own, size, right) = subst (λ left. IsPlainSize kind left n) all plain in
-    let left : HasLeft d (size_at kind d) = omega (arith, size, within, inside, ap length all, length-drop p message) in
-    let moved : at_offset message (p + n) ≡ advanced d (size_at kind d) = ap (λ m. at_offset message (p + m)) size in
-    (_, own_taken kind d (at_offset message (p + n)) (own_value kind (own_at kind d)) own (left, right (own_at kind d), refl, moved))
+own_failed : (kind : Kind) (d : Decoder) (error : DecodeError) → IsOwnKind kind → FailsOwn kind d error → FailsField kind d error
+own_failed (kinds.Name form) d error own h = absurd own
+own_failed kind d error own h = h
+
+plain_size_at : (kind : Kind) (d : Decoder) (n : ℕ) → IsPlainSize kind (length d.bytes - d.index) n → n ≡ size_at kind d
+plain_size_at kind d n plain = plain.size_is (drop d.index d.bytes) (length-drop d.index d.bytes)
+
+pub plain_taken : (kind : Kind) (d : Decoder) (n : ℕ) → IsPlainSize kind (length d.bytes - d.index) n → HasLeft d n
+    → TakesField kind d (own_value kind (own_at kind d)) (advanced d n)
+plain_taken kind d n plain left =
+    let size = plain_size_at kind d n plain in
+    let there : HasLeft d (size_at kind d) = subst (HasLeft d) size left in
+    own_taken kind d (advanced d n) (own_value kind (own_at kind d)) plain.own (there, plain.right (own_at kind d), refl, ap (advanced d) size)
+
+pub plain_head : (kind : Kind) (d : Decoder) (n : ℕ) → IsPlainSize kind (length d.bytes - d.index) n → HasLeft d n
+    → d.index + head_of kind ≤ d.index + n
+plain_head kind d n plain left = past_head kind d (advanced d n) _ (plain_taken kind d n plain left)
+
+pub plain_failed : (kind : Kind) (d : Decoder) (n : ℕ) → IsPlainSize kind (length d.bytes - d.index) n → ¬ (HasLeft d n)
+    → FailsField kind d InsufficientBytes
+plain_failed kind d n plain few =
+    let size = plain_size_at kind d n plain in
+    own_failed kind d InsufficientBytes plain.own (inl ((λ left. few (subst (HasLeft d) (sym size) left)), refl))
+
+pub plain_ends : (kind : Kind) (message : List ℕ) (p n : ℕ) → IsPlainSize kind (length message - p) n → n ≤ length message - p
+    → p ≤ length message → EndsAt kind message p (p + n)
+plain_ends kind message p n plain within inside = (_, plain_taken kind (at_offset message p) n plain (omega (arith, within, inside)))
+
+pub plain_lacks : (kind : Kind) (message : List ℕ) (p n : ℕ) → IsPlainSize kind (length message - p) n → length message - p < n
+    → FailsField kind (at_offset message p) InsufficientBytes
+plain_lacks kind message p n plain less = plain_failed kind (at_offset message p) n plain (λ left. absurd (omega (arith, less, left)))

@@ -112,18 +112,18 @@ fn end_of(kind: Kind, message: &[u8], offset: usize) -> Result<usize, DecodeErro
     ensures head { IfOk result (λ end. offset + head_of kind ≤ end) }
     ensures err { IfErr result (FailsField kind (at_offset message.now offset)) }
 {
-    let left = &message[offset..];
+    let left = message.len() - offset;
     match plain_size(kind, left) {
-        Some(size) if left.len() < size => Err(DecodeError::InsufficientBytes),
+        Some(size) if left < size => Err(DecodeError::InsufficientBytes),
         Some(size) => Ok(offset + size),
         None => read_end(kind, message, offset),
     }
 }
 
-/// Returns how many octets a field takes of those that are left, if any octets of that number are one.
+/// Returns how many octets a field takes of so many that are left, if any octets of that number are one.
 #[inline(always)]
-fn plain_size(kind: Kind, left: &[u8]) -> Option<usize>
-    ensures { IfSome result (IsPlainSize kind left.now) }
+pub(crate) fn plain_size(kind: Kind, left: usize) -> Option<usize>
+    ensures { IfSome result (IsPlainSize kind left) }
 {
     match kind {
         Kind::U8 => Some(1),
@@ -132,7 +132,7 @@ fn plain_size(kind: Kind, left: &[u8]) -> Option<usize>
         Kind::U48 | Kind::LongTime => Some(6),
         Kind::U64 | Kind::Locator => Some(8),
         Kind::Ipv6 => Some(16),
-        Kind::Octets(_) => Some(left.len()),
+        Kind::Octets(_) => Some(left),
         _ => None,
     }
 }

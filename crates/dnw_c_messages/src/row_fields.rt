@@ -1,5 +1,5 @@
 //! The fields of the data of a record, and the entries of lists among them, as rows of the table of a message.
-ghost use Rattle.std.specs.Prelude.{◌≡◌, ◌≤◌, ◌∷◌, [], ◌++◌, ℕ, List, length, OnOk, OnErr, IfOk, IfErr, MatchOption};
+ghost use Rattle.std.specs.Prelude.{◌≡◌, ◌-◌, ◌≤◌, ◌∷◌, [], ◌++◌, ℕ, List, length, OnOk, OnErr, IfOk, IfErr, MatchOption};
 ghost use Rattle.dnw_base.specs.declared.error.DecodeError.{DecodeError};
 ghost use Rattle.dnw_name_read.specs.Reading.{TakesName};
 ghost use Rattle.dnw_c_base.specs.Failures.{of_decode};
@@ -8,8 +8,10 @@ ghost use Rattle.dnw_data.specs.Lists.{ItemsValue};
 ghost use Rattle.dnw_data.specs.Values.{seen};
 ghost use Rattle.dnw_data.specs.declared.kind.Kind.{Kind};
 ghost use Rattle.dnw_c_messages.specs.Listings.{IsOwnKind, Task, entries, entries_of, fields};
+ghost use Rattle.dnw_c_messages.specs.Inside.PlainFields.{IsPlainSize};
 ghost use Rattle.dnw_c_messages.specs.Inside.Sheets.{Fits, Goes, HaltsOn, left_of, sheet};
 
+use crate::fields::plain_size;
 use crate::rows::{ENTRY, Listed, TableRow, data_row, field_row, list_fault, list_name, list_row};
 use dnw_base::decoder::BinDecoder;
 use dnw_c_base::failure::Failure;
@@ -102,6 +104,54 @@ fn list_name_field(
 /// Does so for another field.
 #[inline(always)]
 fn list_own_field(
+    kind: Kind,
+    reader: &mut BinDecoder<'_>,
+    rows: &mut [TableRow],
+    names: &mut [u8],
+    at: &mut Listed,
+) -> Result<bool, Failure>
+    requires own { IsOwnKind kind }
+    requires fits { Fits (sheet rows.old names.old at.old) }
+    ensures ok { IfOk result (λ goes_on. (kinds : List Kind) (b : List ℕ) (p : ℕ) → Goes b (fields (kind ∷ kinds) reader.old ∷ []) p
+        (sheet rows.old names.old at.old) (left_of goes_on kinds reader.new) p (sheet rows.new names.new at.new)) }
+    ensures err { IfErr result (λ failure. (kinds : List Kind) (b : List ℕ) (p : ℕ) → HaltsOn b (fields (kind ∷ kinds) reader.old ∷ []) p
+        (sheet rows.old names.old at.old) failure) }
+{
+    match plain_size(kind, reader.message().len() - reader.index()) {
+        Some(size) => list_plain_field(kind, size, reader, rows, names, at),
+        None => list_read_field(kind, reader, rows, names, at),
+    }
+}
+
+/// Does so for a field of so many octets, whatever they are.
+#[inline(always)]
+fn list_plain_field(
+    kind: Kind,
+    size: usize,
+    reader: &mut BinDecoder<'_>,
+    rows: &mut [TableRow],
+    names: &mut [u8],
+    at: &mut Listed,
+) -> Result<bool, Failure>
+    requires plain { IsPlainSize kind (length reader.old.bytes - reader.old.index) size }
+    requires fits { Fits (sheet rows.old names.old at.old) }
+    ensures ok { IfOk result (λ goes_on. (kinds : List Kind) (b : List ℕ) (p : ℕ) → Goes b (fields (kind ∷ kinds) reader.old ∷ []) p
+        (sheet rows.old names.old at.old) (left_of goes_on kinds reader.new) p (sheet rows.new names.new at.new)) }
+    ensures err { IfErr result (λ failure. (kinds : List Kind) (b : List ℕ) (p : ℕ) → HaltsOn b (fields (kind ∷ kinds) reader.old ∷ []) p
+        (sheet rows.old names.old at.old) failure) }
+{
+    let start = reader.index();
+    if reader.len() < size {
+        list_fault(Failure::MessageCut, reader, rows, at)?;
+        return Ok(false);
+    }
+    reader.skip(size).unwrap();
+    list_row(field_row(kind, start, reader.index()), rows, at)?;
+    Ok(true)
+}
+
+/// Does so for a field that is read.
+fn list_read_field(
     kind: Kind,
     reader: &mut BinDecoder<'_>,
     rows: &mut [TableRow],

@@ -4,7 +4,7 @@ use Rattle.dnw_c_base.proofs.Exits.{exits}
 use Rattle.dnw_c_messages.specs.Listings.{fields}
 use Rattle.dnw_c_messages.proofs.FieldSteps.{fault_goes, fault_halts, list_within, own_goes, own_halts, own_onward}
 use Rattle.dnw_c_messages.proofs.Steps.{goes_both, goes_halts}
-use Rattle.dnw_c_messages.proofs.row_fields.list_own_field.Goals as goal
+use Rattle.dnw_c_messages.proofs.row_fields.list_read_field.Goals as goal
 
 pub returns-in_err-list_fault-in-Err-clause-err : goal.returns-in_err-list_fault-in-Err-clause-err
 returns-in_err-list_fault-in-Err-clause-err c =
