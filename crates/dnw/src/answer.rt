@@ -1,6 +1,8 @@
 //! What the program answers to its words.
 
 mod messages;
+mod names;
+mod queries;
 mod sums;
 mod zones;
 
@@ -14,6 +16,7 @@ use dns_names_wire::{DecodeError, ProtoError};
 use hex::FromHexError;
 use std::alloc::{AllocError, AllocFailed, Global};
 use std::io::{Read, Write};
+use std::random::RandomSource;
 use std::rt::Files;
 use std::{fs, io};
 use thiserror::Error;
@@ -22,14 +25,31 @@ use thiserror::Error;
 const HELP: &str = "\
 Shows DNS messages, makes queries, lists zone files, and computes the sums of DNSSEC.
 
-usage: dnw message HEX | -                     shows a message, from digits or standard input
-       dnw query NAME TYPE [--edns]            makes a query, as hexadecimal digits
+usage: dnw message HEX | FILE | - [OPTION..]   shows messages: digits, a file or standard input
+       dnw query NAME TYPE [OPTION..]          makes a query, as hexadecimal digits
+       dnw name NAME..                         shows the wire form of each name
+       dnw name --key NAME..                   shows sort keys
+       dnw name --reverse ADDRESS..            shows the names of the addresses' PTR records
+       dnw name --sort -                       puts names, a line each, in canonical order
        dnw key-tag RECORD                      computes the key tag of a DNSKEY record
        dnw ds RECORD                           makes the DS record of a DNSKEY record
        dnw nsec3 NAME ITERATIONS SALT          hashes a name for NSEC3
        dnw zone-digest APEX ALGORITHM -        computes the digest of a zone file
        dnw zone FILE --origin NAME [OPTION..]  lists the records of a zone file, or its errors
        dnw --help                              shows this text
+
+A message is shown as dig shows it. A file has it as it is, or as hexadecimal digits. A name of a
+file that has digits alone begins with ./ here. If one of many is refused, its line says why.
+  --lines     many messages, each as a line of hexadecimal digits
+  --framed    many messages, each after its length in two octets, as over TCP
+  --json      each message as a JSON object in one line (RFC 8427)
+
+A query asks for recursion, in the class IN.
+  --id=NUMBER        the id; without this it cannot be guessed
+  --edns             says that responses of 1232 octets are taken
+  --dnssec           asks for DNSSEC records, by EDNS
+  --option=CODE:HEX  adds an option of EDNS; may be there often
+  --tcp              puts the length in front, as over TCP
 
 A zone file is shown as one line a record, with nothing left out. If an entry is wrong, all errors
 are shown instead, as FILE:LINE:COLUMN, with the line and a mark. The FILE - is standard input.
@@ -40,8 +60,9 @@ are shown instead, as FILE:LINE:COLUMN, with the line and a mark. The FILE - is 
 
 Exit status: 0 after an answer, 1 if what was given is refused, 2 if the words ask for nothing.
 
-Examples: dnw zone /etc/bind/db.local --origin localhost.
-          dnw query example.com. MX | dnw message -
+Examples: dnw query example.com. MX --dnssec | dnw message -
+          dnw message replies.bin --framed --json
+          dnw zone /etc/bind/db.local --origin localhost.
           (echo 0000 8400 0000 0001 0000 0000; dnw zone FILE --origin NAME --wire | head -n 1) |
               dnw message -";
 
@@ -49,7 +70,7 @@ Examples: dnw zone /etc/bind/db.local --origin localhost.
 #[derive(Debug, Drop, Error)]
 enum Refusal {
     /// The words ask for nothing that the program does.
-    #[error("usage: dnw message HEX | message - | query NAME TYPE [--edns] | key-tag RECORD | ds RECORD | nsec3 NAME ITERATIONS SALT | zone-digest APEX ALGORITHM - | zone FILE --origin NAME [--sort] [--relative | --wire]")]
+    #[error("usage: dnw message | query | name | key-tag | ds | nsec3 | zone-digest | zone WORD.. (dnw --help says which)")]
     Usage,
     /// Standard input could not be read.
     #[error("refused: standard input: {0}")]
@@ -62,6 +83,9 @@ enum Refusal {
         /// What is wrong.
         error: io::Error,
     },
+    /// The system gave no octets by chance.
+    #[error("refused: no id by chance: {0}")]
+    Chance(io::Error),
     /// A name was refused, or memory ran out.
     #[error("refused: {0}")]
     Proto(ProtoError),
@@ -71,6 +95,23 @@ enum Refusal {
     /// A message was refused.
     #[error("refused: {0}")]
     Message(MessageError),
+    /// The line of a message has something else than hexadecimal digits, two for each octet.
+    #[error("refused: wanted hexadecimal digits, two for each octet")]
+    Digits,
+    /// A stream of messages ends within a length or a message.
+    #[error("refused: wanted {wanted} octets, and {found} are left")]
+    Cut {
+        /// How many octets the length, or the message, has.
+        wanted: usize,
+        /// How many are left.
+        found: usize,
+    },
+    /// Some of many messages were refused: the text of all, with the lines that say why.
+    #[error("{0}")]
+    Messages(String),
+    /// The options of a query are too many.
+    #[error("refused: the options have more than 32768 octets")]
+    Options,
     /// An `OPT` record is outside the additional section, or a name or a record could not be read.
     #[error("refused: {0}")]
     Decode(DecodeError),
@@ -167,7 +208,7 @@ impl From<AllocError> for Refusal {
 
 /// Writes the answer to the words, the program's own name not among them, and returns the exit status: 0 for an
 /// answer, 1 for a refusal, 2 for words that ask for nothing. It fails if the answer cannot be written.
-pub fn answer<E: Files + AllocGlobal, I: Read, W: Write>(
+pub fn answer<E: Files + RandomSource + AllocGlobal, I: Read, W: Write>(
     env: &E,
     words: &[String],
     input: &mut I,
@@ -188,25 +229,21 @@ pub fn answer<E: Files + AllocGlobal, I: Read, W: Write>(
     }
 }
 
-fn reply<E: Files + AllocGlobal, I: Read>(
+fn reply<E: Files + RandomSource + AllocGlobal, I: Read>(
     env: &E,
     words: &[String],
     input: &mut I,
 ) -> Result<String, Refusal> {
     let alloc = env.alloc();
     match words {
-        [command, dash] if command.as_str() == "message" && dash.as_str() == "-" => {
-            messages::listing(alloc, given(alloc, input)?.as_slice())
+        [command, words @ ..] if command.as_str() == "message" => {
+            messages::answer(env, alloc, words, input)
         }
-        [command, message] if command.as_str() == "message" => {
-            messages::listing(alloc, octets(alloc, message.as_str())?.as_slice())
+        [command, name, record_type, words @ ..] if command.as_str() == "query" => {
+            queries::query(env, alloc, name.as_str(), record_type.as_str(), words)
         }
-        [command, name, record_type] if command.as_str() == "query" => {
-            messages::query(alloc, name.as_str(), record_type.as_str(), false)
-        }
-        [command, name, record_type, edns]
-            if command.as_str() == "query" && edns.as_str() == "--edns" => {
-            messages::query(alloc, name.as_str(), record_type.as_str(), true)
+        [command, words @ ..] if command.as_str() == "name" => {
+            names::answer(alloc, words, input)
         }
         [command, line] if command.as_str() == "key-tag" => sums::tag(alloc, line.as_str()),
         [command, line] if command.as_str() == "ds" => sums::ds(alloc, line.as_str()),
@@ -276,22 +313,6 @@ fn contents<E: Files, I: Read>(
 fn read_file<E: Files>(env: &E, file: &str, octets: &mut Vec<u8>) -> io::Result<()> {
     fs::open(env, file)?.read_to_end(octets)?;
     Ok(())
-}
-
-/// Octets from standard input. If all of it is hexadecimal digits, spaces and ends of lines, the digits are the octets; else it
-/// is the octets.
-fn given<I: Read>(alloc: Global, input: &mut I) -> Result<Vec<u8>, Refusal> {
-    let mut bytes = Vec::new(alloc);
-    input.read_to_end(&mut bytes)?;
-    let mut digits = String::new(alloc);
-    for byte in &bytes {
-        if byte.is_ascii_hexdigit() {
-            digits.push(char::from(*byte))?;
-        } else if !byte.is_ascii_whitespace() {
-            return Ok(bytes);
-        }
-    }
-    octets(alloc, digits.as_str())
 }
 
 /// Octets in hexadecimal digits of either case.

@@ -6,6 +6,7 @@ mod answer;
 use answer::answer;
 use std::io::{Read, Write};
 use std::process::ExitCode;
+use std::random::RandomSource;
 use std::rt::{Env, Files};
 use std::{env, io};
 
@@ -18,7 +19,7 @@ fn words<E: Env + AllocGlobal>(env: &E) -> io::Result<Vec<String>> {
     Ok(words)
 }
 
-fn run<E: Env + Files + AllocGlobal, I: Read, W: Write>(
+fn run<E: Env + Files + RandomSource + AllocGlobal, I: Read, W: Write>(
     env: &E,
     input: &mut I,
     out: &mut W,

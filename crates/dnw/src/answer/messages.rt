@@ -1,69 +1,134 @@
-//! Whole messages in the layout of `dig`, and queries.
+//! Whole messages, of digits, of a file or of standard input: one or many, in the layout of `dig` or as JSON.
 
-use super::Refusal;
-use dns_names_wire::data_text::data_text;
-use dns_names_wire::dns_class::DNSClass;
-use dns_names_wire::edns_options::OptionData;
+mod dig;
+mod json;
+mod page;
+
+use super::{Refusal, contents, octets};
 use dns_names_wire::error::DecodeError;
-use dns_names_wire::message::{
-    EdnsError, EdnsRef, MessageRef, MessageType, Metadata, OpCode, Records, ResponseCode, Section,
-};
-use dns_names_wire::message_writer::{Edns, WriterState};
-use dns_names_wire::name::Name;
-use dns_names_wire::record::RecordRef;
-use dns_names_wire::record_type::RecordType;
+use dns_names_wire::message::{EdnsError, MessageRef};
+use page::Page;
 use std::alloc::Global;
+use std::io::Read;
+use std::rt::Files;
 
-/// The greatest query: a header, the longest name, a type and a class, and an `OPT` record without options.
-const MAX_QUERY: usize = 12 + 255 + 4 + 11;
+/// How messages are given.
+#[derive(Clone, Copy, PartialEq, Eq)]
+enum Form {
+    /// One, as it is or as hexadecimal digits.
+    One,
+    /// Each as a line of hexadecimal digits.
+    Lines,
+    /// Each after two octets with its length, as over TCP (RFC 1035, section 4.2.2).
+    Framed,
+}
 
-/// The flags of a query that asks for recursion: RD (RFC 1035, section 4.1.1).
-const ASKING: u16 = 0x0100;
+/// How messages are shown.
+#[derive(Clone, Copy, PartialEq, Eq)]
+enum Layout {
+    /// As `dig` shows them.
+    Dig,
+    /// Each as a JSON object in a line (RFC 8427).
+    Json,
+}
 
-/// What a query says by EDNS: the size of a response that passes most links in one piece (DNS flag day 2020), and no option.
-const EDNS: Edns<'static> = Edns {
-    max_payload: 1232,
-    rcode_high: 0,
-    version: 0,
-    dnssec_ok: false,
-    options: &[],
-};
+/// What the words after the command ask for.
+#[derive(Clone, Copy)]
+struct Wanted<'w> {
+    /// Hexadecimal digits, or else the name of a file.
+    source: Option<&'w str>,
+    form: Form,
+    layout: Layout,
+}
 
-/// Returns a message as text: its header, what it says by EDNS, each item of its sections in a line, and how many octets follow it.
-pub(super) fn listing(alloc: Global, octets: &[u8]) -> Result<String, Refusal> {
-    let message = MessageRef::read(octets)?;
-    let edns = in_additionals(&message, message.edns())?;
-    let response = in_additionals(&message, message.response_code())?;
-    let mut text = header_lines(alloc, &message, response)?;
-    text.push_str("\n")?;
-    if let Some(edns) = &edns {
-        push_edns(alloc, &mut text, edns)?;
+/// Returns the messages of the source that the words name, as they ask for. If there are many, each that is refused has a line
+/// that says why, and all of them are a refusal.
+pub(super) fn answer<E: Files, I: Read>(
+    env: &E,
+    alloc: Global,
+    words: &[String],
+    input: &mut I,
+) -> Result<String, Refusal> {
+    let wanted = wanted_of(words)?;
+    let Some(source) = wanted.source else {
+        return Err(Refusal::Usage);
+    };
+    let given = given(env, alloc, source, input)?;
+    match wanted.form {
+        Form::One => shown(
+            alloc,
+            message_octets(alloc, given)?.as_slice(),
+            wanted.layout,
+        ),
+        Form::Lines => {
+            let mut page = Page::new(alloc, wanted.layout);
+            page.add_lines(alloc, given.as_slice())?;
+            page.finish()
+        }
+        Form::Framed => {
+            let mut page = Page::new(alloc, wanted.layout);
+            page.add_frames(alloc, message_octets(alloc, given)?.as_slice())?;
+            page.finish()
+        }
     }
-    push_queries(alloc, &mut text, &message)?;
-    push_section(alloc, &mut text, Section::Answers, message.answers())?;
-    push_section(
-        alloc,
-        &mut text,
-        Section::Authorities,
-        message.authorities(),
-    )?;
-    push_section(
-        alloc,
-        &mut text,
-        Section::Additionals,
-        message.additionals(),
-    )?;
-    let rest = message.trailing().len();
-    if rest > 0 {
-        let bytes = if rest == 1 { "byte" } else { "bytes" };
-        text.push_str(format!(in alloc;
-            "\n;; WARNING: Message has {rest} extra {bytes} at end\n"
-        )?.as_str())?;
+}
+
+/// What the words ask for: one source, and each option at most once, in any order.
+fn wanted_of(words: &[String]) -> Result<Wanted<'_>, Refusal> {
+    let mut wanted = Wanted {
+        source: None,
+        form: Form::One,
+        layout: Layout::Dig,
+    };
+    for word in words {
+        match word.as_str() {
+            "--json" if wanted.layout == Layout::Dig => wanted.layout = Layout::Json,
+            "--lines" if wanted.form == Form::One => wanted.form = Form::Lines,
+            "--framed" if wanted.form == Form::One => wanted.form = Form::Framed,
+            source if wanted.source.is_none() && !source.starts_with("--") => {
+                wanted.source = Some(source);
+            }
+            _ => return Err(Refusal::Usage),
+        }
     }
-    if text.as_str().ends_with('\n') {
-        text.pop();
+    Ok(wanted)
+}
+
+/// The octets that a source has: a word of hexadecimal digits alone has itself, and another is the name of a file, or `-`.
+fn given<E: Files, I: Read>(
+    env: &E,
+    alloc: Global,
+    source: &str,
+    input: &mut I,
+) -> Result<Vec<u8>, Refusal> {
+    for byte in source.as_bytes() {
+        if !byte.is_ascii_hexdigit() {
+            return contents(env, alloc, source, input);
+        }
     }
-    Ok(text)
+    Ok(Vec::from_slice(alloc, source.as_bytes())?)
+}
+
+/// The octets of a message. If all that is given is hexadecimal digits, spaces and ends of lines, the digits are the octets; else
+/// it is the octets.
+fn message_octets(alloc: Global, given: Vec<u8>) -> Result<Vec<u8>, Refusal> {
+    let mut digits = String::new(alloc);
+    for byte in &given {
+        if byte.is_ascii_hexdigit() {
+            digits.push(char::from(*byte))?;
+        } else if !byte.is_ascii_whitespace() {
+            return Ok(given);
+        }
+    }
+    octets(alloc, digits.as_str())
+}
+
+/// Returns a message as it is to be shown.
+fn shown(alloc: Global, octets: &[u8], layout: Layout) -> Result<String, Refusal> {
+    match layout {
+        Layout::Dig => dig::listing(alloc, octets),
+        Layout::Json => json::line(alloc, octets),
+    }
 }
 
 /// Returns what a message says by EDNS, or why it says nothing, and where its additional records begin.
@@ -81,177 +146,4 @@ fn in_additionals<T: Drop>(
             error,
         }),
     }
-}
-
-/// Adds what a message says by EDNS: a line, and one for each option. One that breaks a rule is shown by its octets.
-fn push_edns(alloc: Global, text: &mut String, edns: &EdnsRef<'_>) -> Result<(), Refusal> {
-    let flags = if edns.dnssec_ok() { " do" } else { "" };
-    let (version, payload) = (edns.version(), edns.max_payload());
-    text.push_str(format!(in alloc;
-        "\n;; OPT PSEUDOSECTION:\n; EDNS: version: {version}, flags:{flags}; udp: {payload}"
-    )?.as_str())?;
-    for option in edns.options() {
-        let shown = OptionData::read_any(option.code(), option.octets());
-        text.push_str(format!(in alloc; "\n; {shown}")?.as_str())?;
-    }
-    Ok(())
-}
-
-/// Adds the questions, each in a line.
-fn push_queries(alloc: Global, text: &mut String, message: &MessageRef<'_>) -> Result<(), Refusal> {
-    if message.header().counts.queries == 0 {
-        return Ok(());
-    }
-    text.push_str("\n;; QUESTION SECTION:")?;
-    for query in message.queries() {
-        let name = query.name().to_name(alloc)?.to_text(alloc)?;
-        let (class, record_type) = (query.query_class().to_text(), query.query_type().to_text());
-        text.push_str(format!(in alloc;
-            "\n;{}\t{}\t{}",
-            name.as_str(),
-            class.as_str(),
-            record_type.as_str()
-        )?
-        .as_str())?;
-    }
-    text.push_str("\n")?;
-    Ok(())
-}
-
-/// Returns the two lines of a header.
-fn header_lines(
-    alloc: Global,
-    message: &MessageRef<'_>,
-    response: ResponseCode,
-) -> Result<String, Refusal> {
-    let (metadata, counts) = (&message.header().metadata, &message.header().counts);
-    let mut text = format!(in alloc;
-        ";; ->>HEADER<<- opcode: {}, status: {}, id: {}\n;; flags:",
-        op_text(alloc, metadata.op_code)?,
-        response_text(alloc, response)?,
-        metadata.id
-    )?;
-    for (is_set, flag) in flags_of(metadata) {
-        if is_set {
-            text.push_str(" ")?;
-            text.push_str(flag)?;
-        }
-    }
-    let sizes = format!(in alloc;
-        "; QUERY: {}, ANSWER: {}, AUTHORITY: {}, ADDITIONAL: {}",
-        counts.queries, counts.answers, counts.authorities, counts.additionals
-    )?;
-    text.push_str(sizes.as_str())?;
-    Ok(text)
-}
-
-/// The flags of a header, in their order.
-fn flags_of(metadata: &Metadata) -> [(bool, &'static str); 7] {
-    [
-        (metadata.message_type == MessageType::Response, "qr"),
-        (metadata.authoritative, "aa"),
-        (metadata.truncation, "tc"),
-        (metadata.recursion_desired, "rd"),
-        (metadata.recursion_available, "ra"),
-        (metadata.authentic_data, "ad"),
-        (metadata.checking_disabled, "cd"),
-    ]
-}
-
-/// The name of an operation in capitals, or `RESERVED` with its code.
-fn op_text(alloc: Global, op: OpCode) -> Result<String, Refusal> {
-    match op {
-        OpCode::Unknown(code) => Ok(format!(in alloc; "RESERVED{code}")?),
-        _ => capitals(alloc, op.name()),
-    }
-}
-
-/// The name of a response in capitals, or `RESERVED` with its code.
-fn response_text(alloc: Global, response: ResponseCode) -> Result<String, Refusal> {
-    match response {
-        ResponseCode::Unknown(code) => Ok(format!(in alloc; "RESERVED{code}")?),
-        _ => capitals(alloc, response.name()),
-    }
-}
-
-fn capitals(alloc: Global, name: &str) -> Result<String, Refusal> {
-    let mut text = String::new(alloc);
-    for c in name.chars() {
-        text.push(c.to_ascii_uppercase())?;
-    }
-    Ok(text)
-}
-
-/// Adds the records of a section, under its title if there are any. What the `OPT` record among the additional ones says stands
-/// elsewhere.
-fn push_section(
-    alloc: Global,
-    text: &mut String,
-    section: Section,
-    records: Records<'_>,
-) -> Result<(), Refusal> {
-    let mut is_first = true;
-    for record in records {
-        if section == Section::Additionals && record.record_type() == RecordType::OPT {
-            continue;
-        }
-        if is_first {
-            let title = title_of(section);
-            text.push_str(format!(in alloc; "\n;; {title} SECTION:")?.as_str())?;
-            is_first = false;
-        }
-        push_record(alloc, text, &record)?;
-    }
-    if !is_first {
-        text.push_str("\n")?;
-    }
-    Ok(())
-}
-
-fn title_of(section: Section) -> &'static str {
-    match section {
-        Section::Header => "HEADER",
-        Section::Queries => "QUESTION",
-        Section::Answers => "ANSWER",
-        Section::Authorities => "AUTHORITY",
-        Section::Additionals => "ADDITIONAL",
-    }
-}
-
-/// Adds a record in a line: its owner, time to live, class, type and data.
-fn push_record(alloc: Global, text: &mut String, record: &RecordRef<'_>) -> Result<(), Refusal> {
-    let owner = record.owner().to_name(alloc)?;
-    let (class, record_type) = (record.class().to_text(), record.record_type().to_text());
-    let front = format!(in alloc;
-        "\n{owner}\t{}\t{}\t{}\t",
-        record.ttl(),
-        class.as_str(),
-        record_type.as_str()
-    )?;
-    text.push_str(front.as_str())?;
-    text.push_str(data_text(alloc, record)?.as_str())?;
-    Ok(())
-}
-
-/// Returns a query for the records of a type that a name has, in the class IN, in hexadecimal. It asks for recursion; its id is
-/// 0, for the sender to replace.
-pub(super) fn query(
-    alloc: Global,
-    name: &str,
-    record_type: &str,
-    has_edns: bool,
-) -> Result<String, Refusal> {
-    let Some(query_type) = RecordType::from_text(record_type) else {
-        return Err(Refusal::Usage);
-    };
-    let name = Name::from_text(alloc, name, None)?;
-    let mut message = [0; MAX_QUERY];
-    let mut writer = WriterState::new();
-    writer.begin(&mut message, 0, ASKING, MAX_QUERY)?;
-    let code = query_type.code();
-    writer.question(&mut message, name.wire_labels(), code, DNSClass::IN.code())?;
-    if has_edns {
-        writer.edns(&mut message, 0, &EDNS, 0)?;
-    }
-    Ok(hex::encode(alloc, &message[..writer.end.min(MAX_QUERY)])?)
 }
