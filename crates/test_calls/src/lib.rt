@@ -8,6 +8,8 @@
 #[cfg(test)]
 mod ample;
 #[cfg(test)]
+mod ample_growing;
+#[cfg(test)]
 mod ample_texts;
 #[cfg(test)]
 mod borrowed;
