@@ -511,24 +511,26 @@ impl MessageBuilder {
         if let Some(error) = self.failure {
             return Err(error);
         }
-        ffi::write_list(self.list()?.as_slice(), max_size, (self.header.id, self.header.flag_bits()), message)
+        let mut list = Room::new();
+        self.put_list(&mut list)?;
+        ffi::write_list(list.as_slice(), max_size, (self.header.id, self.header.flag_bits()), message)
     }
 
-    /// Returns the whole list of items.
-    fn list(&self) -> Result<Room, Error> {
-        let (code, usual) = (u16::from(self.header.response_code), Opt::of(&Edns::new(USUAL_PAYLOAD)));
-        let mut list = Room::new();
+    /// Puts the whole list of items.
+    fn put_list(&self, list: &mut Room) -> Result<(), Error> {
         list.extend_from_slice(&self.items);
         self.mark_authorities(list.as_mut_slice());
-        if let Some(edns) = self.edns.as_ref().or_else(|| (code > MOST_IN_HEADER).then_some(&usual)) {
-            list.extend_from_slice(&[ADDITIONALS | LAST]);
-            edns.put(code, &mut list)?;
+        let code = u16::from(self.header.response_code);
+        match &self.edns {
+            Some(edns) => edns.put(code, list)?,
+            None if code > MOST_IN_HEADER => Opt::of(&Edns::new(USUAL_PAYLOAD)).put(code, list)?,
+            None => {}
         }
         if let Some(record) = &self.last {
             list.extend_from_slice(&[ADDITIONALS | LAST]);
             list.extend_from_slice(record.as_wire());
         }
-        Ok(list)
+        Ok(())
     }
 
     /// Marks the authorities that are optional beside answers.
@@ -621,14 +623,15 @@ impl Opt {
         }
     }
 
-    /// Appends an OPT record, as the list has it: the class is the size, and the TTL has the high bits of a response code,
-    /// the version and DO. Options that are too long for a record are too long for any message.
+    /// Appends an OPT record as an item of the list: the class is the size, and the TTL has the high bits of a response
+    /// code, the version and DO. Options that are too long for a record are too long for any message.
     fn put(&self, code: u16, list: &mut Room) -> Result<(), Error> {
         let len = u16::try_from(self.options.len()).map_err(|_| ErrorKind::MessageTooLong)?;
         let ([t, u], [c, d], [n, m]) =
             (RecordType::OPT.code().to_be_bytes(), self.max_payload.to_be_bytes(), len.to_be_bytes());
         let flags = if self.dnssec_ok { DNSSEC_OK } else { 0 };
-        list.extend_from_slice(&[0, t, u, c, d, (code >> 4) as u8, self.version, flags, 0, n, m]);
+        let front = [ADDITIONALS | LAST, 0, t, u, c, d, (code >> 4) as u8, self.version, flags, 0, n, m];
+        list.extend_from_slice(&front);
         list.extend_from_slice(&self.options);
         Ok(())
     }

@@ -10,6 +10,7 @@ pub mod GivenRecords
 pub mod Going
 pub mod Laying
 pub mod Listing
+pub mod Opening
 pub mod Opts
 pub mod Puts
 pub mod ItemsBack

@@ -52,7 +52,7 @@ range_length : (b : List ℕ) (p n : ℕ) → p + n ≤ length b → length (sli
 range_length b p n inside =
     omega (arith, length-drop p b, length-take-le (p + n - p) (drop p b) (omega (arith, length-drop p b)))
 
-range_index : (b : List ℕ) (p n k : ℕ) → k < n → get_or (slice_range b p (p + n)) k 0 ≡ get_or b (p + k) 0
+pub range_index : (b : List ℕ) (p n k : ℕ) → k < n → get_or (slice_range b p (p + n)) k 0 ≡ get_or b (p + k) 0
 range_index b p n k small = grind (arith, common_steps)
 
 module _ (b later : List ℕ) (gap : ℕ) (keeps : KeepsSettled gap b later) where

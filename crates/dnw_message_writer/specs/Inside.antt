@@ -1,4 +1,5 @@
 -- What no public clause cites.
+pub mod Asked
 pub mod CopiedSets
 pub mod Fitting
 pub mod Going

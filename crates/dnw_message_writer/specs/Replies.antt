@@ -34,14 +34,16 @@ field_at octets p = from_be_bytes w16 (slice_index octets p ∷ slice_index octe
 abbrev pub nothing_asked : ℕ → Asked
 nothing_asked code = record { has_edns = false; max_payload = min_payload; dnssec_ok = false; rcode = code }
 
--- What a message asks by EDNS: nothing if it has none, and FORMERR (1) if it breaks a rule. Another version than 0 is answered with
--- BADVERS (16).
+-- what EDNS asks: another version than 0 is answered with BADVERS (16)
+abbrev pub asks_by : EdnsValue → Asked
+asks_by e = record { has_edns = true; max_payload = e.max_payload; dnssec_ok = e.dnssec_ok; rcode = if nat_lt 0 e.version then 16 else 0 }
+
+-- What a message asks by EDNS: nothing if it has none, and FORMERR (1) if it breaks a rule.
 abbrev pub AsksByEdns : MessageValue → Asked → Type 0
 AsksByEdns m asked =
     ((e : EdnsError) × FailsEdns m e × (asked ≡ nothing_asked 1))
     ⊎ (HasEdns m None × (asked ≡ nothing_asked 0))
-    ⊎ ((e : EdnsValue) × HasEdns m (Some e)
-    × (asked ≡ record { has_edns = true; max_payload = e.max_payload; dnssec_ok = e.dnssec_ok; rcode = if nat_lt 0 e.version then 16 else 0 }))
+    ⊎ ((e : EdnsValue) × HasEdns m (Some e) × (asked ≡ asks_by e))
 
 -- the only one of these questions, if there is one
 abbrev pub IsOnlyQuery : List QueryValue → Option QueryValue → Type 0

@@ -1,6 +1,6 @@
 //! Records and messages that were read, written again.
 ghost use Rattle.std.specs.Prelude.{◌≡◌, ◌∷◌, ◌<◌, ◌≤◌, ◌^◌, ◌↔◌, [], length, replicate, take, IfErr, IfOk, IfSome, IsTrue, MatchOption, OnErr, OnOk};
-ghost use Rattle.dnw_base.specs.Names.{AreLabels};
+ghost use Rattle.dnw_base.specs.Names.{AreLabels, lower};
 ghost use Rattle.dnw_data.specs.Table.{fields_of};
 ghost use Rattle.dnw_record.specs.DataPieces.{IsData};
 ghost use Rattle.dnw_message_read.specs.Headers.{flags_of};
@@ -27,7 +27,6 @@ use dnw_data::fields::FieldError;
 use dnw_message_read::edns::EdnsError;
 use dnw_message_read::items::{Queries, Records};
 use dnw_message_read::message::MessageRef;
-use dnw_name::name::Name;
 use dnw_name::name_ref::NameRef;
 use dnw_record::rdata::{RData, RDataError};
 use dnw_record::record_ref::{FIXED_SIZE, RecordRef};
@@ -380,13 +379,12 @@ impl WriterState {
         ensures kept { KeptCount section (take self.old.end message.old) (take self.old.end message.new) }
         ensures size { length message.new ≡ length message.old }
     {
-        let owner = first.owner().to_name(alloc).unwrap();
         let begun = self.record_of(alloc, message, section, first);
         if let Err(error) = begun {
             return Err(error);
         }
         'set: while let Some(record) = next_of(section, records) {
-            if !is_of_set(first, &owner, &record) {
+            if !is_of_set(alloc, first, &record) {
                 return Ok(Some(record));
             }
             let added = self.record_of(alloc, message, section, &record);
@@ -438,15 +436,44 @@ fn next_of<'m>(section: Section, records: &mut Records<'m>) -> Option<RecordRef<
     }
 }
 
-/// Returns `true` if a record is of the set of the first one, which has this owner.
+/// Returns `true` if a record is of the set of the first one.
 #[inline(always)]
-fn is_of_set(first: &RecordRef<'_>, owner: &Name, item: &RecordRef<'_>) -> bool
-    requires { owner.now.labels ≡ first.now.owner }
+fn is_of_set(alloc: Global, first: &RecordRef<'_>, item: &RecordRef<'_>) -> bool
     ensures { IsTrue result ↔ AreOfOneSet first.now item.now }
 {
     u16::from(first.record_type()) == u16::from(item.record_type())
         && u16::from(first.class()) == u16::from(item.class())
-        && item.owner().eq_name(owner)
+        && are_alike(alloc, first.owner(), item.owner())
+}
+
+/// Returns `true` if two names are the same, ignoring case. Mostly their wire forms are.
+fn are_alike(alloc: Global, some: &NameRef<'_>, other: &NameRef<'_>) -> bool
+    ensures { IsTrue result ↔ (lower some.now ≡ lower other.now) }
+{
+    if has_form_of(some, other) {
+        return true;
+    }
+    let name = some.to_name(alloc).unwrap();
+    other.eq_name(&name)
+}
+
+/// Returns `true` if two names have the same wire form.
+#[inline(always)]
+fn has_form_of(some: &NameRef<'_>, other: &NameRef<'_>) -> bool
+    ensures { IsTrue result → some.now ≡ other.now }
+{
+    let mut room = [0; MAX_NAME];
+    let mut other_room = [0; MAX_NAME];
+    let form = some.wire_labels(&mut room).as_wire();
+    are_same(form, other.wire_labels(&mut other_room).as_wire())
+}
+
+/// Returns `true` if two runs of octets are the same.
+#[inline(always)]
+fn are_same(some: &[u8], others: &[u8]) -> bool
+    ensures { IsTrue result → some.now ≡ others.now }
+{
+    some == others
 }
 
 /// Returns `true` for a record that a message has to have: what it says by EDNS (RFC 6891), and a signature of the message (RFC 2931;

@@ -1,5 +1,6 @@
 //! EDNS: an `OPT` record, and padding (RFC 6891, section 6.1; RFC 7830; RFC 8467).
-ghost use Rattle.std.specs.Prelude.{◌≡◌, ◌+◌, ◌*◌, ◌<◌, ◌≤◌, ◌^◌, ◌++◌, [], length, take, IfErr, IfSome, OnErr, OnOk};
+ghost use Rattle.std.specs.Prelude.{◌≡◌, ◌↔◌, ◌+◌, ◌*◌, ◌<◌, ◌≤◌, ◌^◌, ◌++◌, [], Some, None, length, take, IfErr, IfSome, IsTrue, MatchOption, OnErr, OnOk};
+ghost use Rattle.dnw_message_read.specs.Edns.{HasOptions, first_option, option_of};
 ghost use Rattle.dnw_message_writer.specs.Edns.{AddsOpt, FailsToAddOpt, ttl_of_edns, lacking, padding_size};
 ghost use Rattle.dnw_message_writer.specs.Listed.{DataGoPast, data_form};
 ghost use Rattle.dnw_message_writer.specs.States.{AddsItem, FailsToAdd, released, room_of};
@@ -140,6 +141,36 @@ impl WriterState {
         }
         Some(size)
     }
+}
+
+/// Returns `true` if octets are options, up to their end (RFC 6891, section 6.1.2).
+pub(crate) fn are_options(octets: &[u8]) -> bool
+    ensures { IsTrue result ↔ HasOptions octets.now }
+{
+    let mut rest = octets;
+    'options: while !rest.is_empty() {
+        match after_option(rest) {
+            Some(after) => rest = after,
+            None => return false,
+        }
+    }
+    true
+}
+
+/// Returns the octets after the option that octets begin with.
+#[inline(always)]
+#[tactic(auto, unfolding(dnw_message_read::specs::Edns::first_option))]
+fn after_option(octets: &[u8]) -> Option<&[u8]>
+    ensures { MatchOption result (first_option octets.now ≡ None) (λ rest. first_option octets.now ≡ Some (option_of octets.now, rest.now)) }
+{
+    if octets.len() < 4 {
+        return None;
+    }
+    let size = 4 + u16::from_be_bytes([octets[2], octets[3]]) as usize;
+    if octets.len() < size {
+        return None;
+    }
+    Some(&octets[size..])
 }
 
 /// Returns what a number lacks to a multiple of a block.

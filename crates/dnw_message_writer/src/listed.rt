@@ -140,6 +140,7 @@ impl WriterState {
 }
 
 /// Returns the data that a list begins with, and what is after them.
+#[inline(always)]
 fn first_listed(list: &[u8]) -> Option<(&[u8], &[u8])>
     ensures { MatchOption result (HasListed list.now → ⊥) (λ x. HasListed list.now × (x.0.now ≡ first_listed list.now) × (x.1.now ≡ drop (listed_size list.now) list.now)) }
 {

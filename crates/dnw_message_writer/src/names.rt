@@ -1,8 +1,9 @@
 //! Names, written with pointers to where their suffixes stand (RFC 1035, section 4.1.4).
-ghost use Rattle.std.specs.Prelude.{◌≡◌, ◌↔◌, ◌<◌, ◌≤◌, ◌+◌, ◌/◌, ◌%◌, ◌++◌, ◌∷◌, [], ℕ, List, length, take, IsTrue, IfSome, IfNone};
-ghost use Rattle.dnw_base.specs.Names.{encoded_size};
+ghost use Rattle.std.specs.Prelude.{◌≡◌, ◌↔◌, ◌<◌, ◌≤◌, ◌+◌, ◌/◌, ◌%◌, ◌++◌, ◌∷◌, [], ℕ, List, length, take, IsTrue, IfSome, IfNone, false};
+ghost use Rattle.dnw_base.specs.Names.{AreLabels, encoded_size, wire};
 ghost use Rattle.dnw_message_writer.specs.CompressedNames.{Compresses, Finds, FindsNone, MayPointTo, PutsForm, PutsPast, kept_hints, put_at, pointer_octets, spelled};
 ghost use Rattle.dnw_message_writer.specs.Hints.{slot_of};
+ghost use Rattle.dnw_message_writer.specs.Standing.{StandsSettled};
 
 use crate::hints::{FORMER, SLOTS, slot_of};
 use crate::standing::{FIRST_ITEM, stands_at};
@@ -114,7 +115,25 @@ pub(crate) fn is_usable(message: &[u8], gap: usize, hint: u16, labels: WireLabel
         // Mostly the slot is empty.
         return false;
     }
+    if !may_stand(message, start, labels.as_wire()) {
+        return false;
+    }
     start < POINTER_OFFSETS && stands_at(message, gap, start, labels)
+}
+
+/// Returns `false` if other octets than the first two of this wire form show that it does not stand at an offset.
+#[inline(always)]
+fn may_stand(message: &[u8], start: usize, form: &[u8]) -> bool
+    requires { start < 65536 }
+    ensures { result ≡ false → (gap : ℕ) (ls : List (List ℕ)) → AreLabels ls → form.now ≡ wire ls → StandsSettled message.now gap start ls → ⊥ }
+{
+    if form.len() < 2 || message.len() < start + 2 || message[start] >= POINTER_BITS {
+        return true;
+    }
+    if message[start] != form[0] {
+        return false;
+    }
+    message[start + 1] == form[1]
 }
 
 /// Puts the offset of a suffix into its slot as the later hint, and that one as the former.

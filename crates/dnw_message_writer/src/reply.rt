@@ -1,13 +1,18 @@
 //! Replies, as they begin (RFC 1035, section 4.1.1; RFC 6891, section 7; RFC 9619).
-ghost use Rattle.std.specs.Prelude.{◌≡◌, ◌↔◌, ◌≤◌, length, IfErr, IfOk, IsTrue, OnErr, OnOk};
+ghost use Rattle.std.specs.Prelude.{◌≡◌, ◌↔◌, ◌≤◌, length, nat_lt, if◌then◌else◌, IfErr, IfOk, IsTrue, OnErr, OnOk};
+ghost use Rattle.dnw_message_read.specs.Edns.{is_opt};
+ghost use Rattle.dnw_message_writer.specs.Inside.Asked.{AsksByOpt, HasAdditionalsAlone};
 ghost use Rattle.dnw_message_writer.specs.Replies.{AsksByEdns, AsksOf, BeginsAsked, FailsToBeginAsked, FailsToReply, IsRequest, BeginsReplyTo, field_at, nothing_asked, reply_code, reply_flags};
 
+use crate::edns::are_options;
 use crate::section::WriteError;
 use crate::standing::FIRST_ITEM;
 use crate::state::WriterState;
 use dnw_base::limits::{MAX_NAME, MIN_PAYLOAD};
+use dnw_base::record_type::RecordType;
 use dnw_message_read::message::MessageRef;
 use dnw_message_read::query::QueryRef;
+use dnw_record::record_ref::RecordRef;
 use thiserror::Error;
 
 /// The octets of an `OPT` record without options.
@@ -168,9 +173,70 @@ fn asked_of(request: &[u8]) -> (Asked, Option<QueryRef<'_>>)
     (asked_by_edns(&message), first)
 }
 
-/// Returns what a message asks by EDNS.
+/// Returns what a message asks by EDNS. Mostly its only record is an `OPT` record.
 #[inline(always)]
 fn asked_by_edns(message: &MessageRef<'_>) -> Asked
+    ensures { AsksByEdns message.now result }
+{
+    if !has_additionals_alone(message) {
+        return asked_by_any(message);
+    }
+    let mut records = message.additionals();
+    let Some(opt) = records.next() else {
+        return nothing_asked(0);
+    };
+    if !is_opt(opt.record_type()) || records.next().is_some() {
+        return asked_by_any(message);
+    }
+    asked_by(&opt)
+}
+
+/// Returns `true` if a message has no answers and no authorities.
+fn has_additionals_alone(message: &MessageRef<'_>) -> bool
+    ensures { IsTrue result → HasAdditionalsAlone message.now }
+{
+    message.answers().next().is_none() && message.authorities().next().is_none()
+}
+
+/// Returns `true` for `OPT`.
+#[inline(always)]
+fn is_opt(record_type: RecordType) -> bool
+    ensures { result ≡ is_opt record_type }
+{
+    matches!(record_type, RecordType::OPT)
+}
+
+/// Returns what the only `OPT` record of a message asks.
+#[inline(always)]
+fn asked_by(opt: &RecordRef<'_>) -> Asked
+    ensures { AsksByOpt opt.now result }
+{
+    if !opt.owner().is_root() {
+        return nothing_asked(FORMAT_ERROR);
+    }
+    if !are_options(opt.rdata()) {
+        return nothing_asked(FORMAT_ERROR);
+    }
+    let ttl = opt.ttl();
+    Asked {
+        has_edns: true,
+        max_payload: u16::from(opt.class()).max(MIN_PAYLOAD),
+        dnssec_ok: (ttl >> 15) % 2 == 1,
+        rcode: code_for(((ttl >> 16) % 256) as u8),
+    }
+}
+
+/// Returns the response code of a request with a version of EDNS: 0 if it is known.
+#[inline(always)]
+fn code_for(version: u8) -> u16
+    ensures { result ≡ (if nat_lt 0 version then 16 else 0) }
+{
+    if version > 0 { BAD_VERSION } else { 0 }
+}
+
+/// Returns what any message asks by EDNS.
+#[inline(never)]
+fn asked_by_any(message: &MessageRef<'_>) -> Asked
     ensures { AsksByEdns message.now result }
 {
     let Ok(edns) = message.edns() else {
@@ -183,7 +249,7 @@ fn asked_by_edns(message: &MessageRef<'_>) -> Asked
         has_edns: true,
         max_payload: edns.max_payload(),
         dnssec_ok: edns.dnssec_ok(),
-        rcode: if edns.version() > 0 { BAD_VERSION } else { 0 },
+        rcode: code_for(edns.version()),
     }
 }
 

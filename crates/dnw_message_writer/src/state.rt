@@ -105,6 +105,7 @@ impl WriterState {
     }
 
     /// Adds a record to a section, or nothing of it (RFC 1035, section 4.1.3).
+    #[inline(always)]
     pub fn record(
         &mut self,
         message: &mut [u8],
