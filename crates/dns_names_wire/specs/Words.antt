@@ -228,7 +228,7 @@ pub use Rattle.dnw_message_writer.specs.ContentLaws.{BegunMessagesAreEmpty, CutM
 pub use Rattle.dnw_message_writer.specs.ReadItems.{AreNameAlone, AreOctetsAlone, DataNamesAreRead, HasItems, HeldItemsAreRead, HeldItemsNeverFail, IsAddedQuestion, IsAddedRecord}
 pub use Rattle.dnw_message_writer.specs.ReadItems.{OctetsAreRead, ReadMessagesHaveItems, counts_of_items, item_count}
 pub use Rattle.dnw_message_writer.specs.SizeLaws.{QuestionsTakeNoMore, RecordsTakeNoMore, whole_pieces, whole_question, whole_record}
-pub use Rattle.dnw_message_writer.specs.CompressedNames.{Compresses, Finds, FindsNone, former_hint, kept_hints, later_hint, MayPointTo, pointer_octets, put_at, PutsForm, PutsPast, spelled}
+pub use Rattle.dnw_message_writer.specs.CompressedNames.{Compresses, FindsHint, FindsNoHint, former_hint, kept_hints, later_hint, MayPointTo, pointer_octets, put_at, PutsForm, PutsPast, spelled}
 pub use Rattle.dnw_message_writer.specs.ContentLaws.{GivenRecordsAreAdded}
 pub use Rattle.dnw_message_writer.specs.Copying.{AreASet, AreOfOneSet, CopiesHeld, CopiesMessage, CopiesQuestions, CopiesSections, CopiesSets, CopyFits, CopyGoesPast, EndsBefore}
 pub use Rattle.dnw_message_writer.specs.Copying.{FailsHeld, FailsQuestions, FailsSections, FailsSets, FailsToAddCopy, FailsToAddQuery, FailsToCopyMessage, StopsAmong, StopsInSet}

@@ -30,14 +30,14 @@ abbrev pub former_hint : List ℕ → ℕ → ℕ
 former_hint hints slot = slice_index hints (slot + slots)
 
 -- A hint of the slot is found, to which a pointer may stand for the labels: the later one, or else the former.
-abbrev pub Finds : List ℕ → ℕ → List ℕ → ℕ → List (List ℕ) → ℕ → Type 0
-Finds b gap hints slot ls hint =
+abbrev pub FindsHint : List ℕ → ℕ → List ℕ → ℕ → List (List ℕ) → ℕ → Type 0
+FindsHint b gap hints slot ls hint =
     MayPointTo b gap hint ls
     × ((hint ≡ later_hint hints slot) ⊎ ((MayPointTo b gap (later_hint hints slot) ls → ⊥) × (hint ≡ former_hint hints slot)))
 
 -- None is.
-abbrev pub FindsNone : List ℕ → ℕ → List ℕ → ℕ → List (List ℕ) → Type 0
-FindsNone b gap hints slot ls =
+abbrev pub FindsNoHint : List ℕ → ℕ → List ℕ → ℕ → List (List ℕ) → Type 0
+FindsNoHint b gap hints slot ls =
     (MayPointTo b gap (later_hint hints slot) ls → ⊥) × (MayPointTo b gap (former_hint hints slot) ls → ⊥)
 
 -- An offset that a pointer can hold becomes the later hint of a slot, and that one the former.
@@ -51,8 +51,8 @@ module _ (slot : List (List ℕ) → ℕ) (b : List ℕ) (gap : ℕ) where
   abbrev pub Compresses : ℕ → List ℕ → List (List ℕ) → List ℕ → List ℕ → Type 0
   Compresses at hints [] octets after = (octets ≡ 0 ∷ []) × (after ≡ hints)
   Compresses at hints (l ∷ ls) octets after =
-      ((hint : ℕ) × Finds b gap hints (slot (l ∷ ls)) (l ∷ ls) hint × (octets ≡ pointer_octets hint) × (after ≡ hints))
-      ⊎ (FindsNone b gap hints (slot (l ∷ ls)) (l ∷ ls)
+      ((hint : ℕ) × FindsHint b gap hints (slot (l ∷ ls)) (l ∷ ls) hint × (octets ≡ pointer_octets hint) × (after ≡ hints))
+      ⊎ (FindsNoHint b gap hints (slot (l ∷ ls)) (l ∷ ls)
       × (rest : List ℕ) × (octets ≡ label_wire l ++ rest)
       × Compresses (at + 1 + length l) (kept_hints hints (slot (l ∷ ls)) at) ls rest after)
 

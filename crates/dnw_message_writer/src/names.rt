@@ -1,7 +1,7 @@
 //! Names, written with pointers to where their suffixes stand (RFC 1035, section 4.1.4).
 ghost use Rattle.std.specs.Prelude.{◌≡◌, ◌↔◌, ◌<◌, ◌≤◌, ◌+◌, ◌/◌, ◌%◌, ◌++◌, ◌∷◌, [], ℕ, List, length, take, IsTrue, IfSome, IfNone, false};
 ghost use Rattle.dnw_base.specs.Names.{AreLabels, encoded_size, wire};
-ghost use Rattle.dnw_message_writer.specs.CompressedNames.{Compresses, Finds, FindsNone, MayPointTo, PutsForm, PutsPast, kept_hints, put_at, pointer_octets, spelled};
+ghost use Rattle.dnw_message_writer.specs.CompressedNames.{Compresses, FindsHint, FindsNoHint, MayPointTo, PutsForm, PutsPast, kept_hints, put_at, pointer_octets, spelled};
 ghost use Rattle.dnw_message_writer.specs.Hints.{slot_of};
 ghost use Rattle.dnw_message_writer.specs.Standing.{StandsSettled};
 
@@ -90,8 +90,8 @@ fn found(
 ) -> Option<u16>
     requires gap { gap ≤ length message.now }
     requires slot { slot < 256 }
-    ensures some { IfSome result (λ hint. Finds message.now gap hints.now slot labels.entry hint) }
-    ensures none { IfNone result (FindsNone message.now gap hints.now slot labels.entry) }
+    ensures some { IfSome result (λ hint. FindsHint message.now gap hints.now slot labels.entry hint) }
+    ensures none { IfNone result (FindsNoHint message.now gap hints.now slot labels.entry) }
 {
     let later = hints[slot];
     if is_usable(message, gap, later, labels.clone()) {

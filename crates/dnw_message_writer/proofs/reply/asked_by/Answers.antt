@@ -13,8 +13,10 @@ pub returns-then-not-are_options : goal.returns-then-not-are_options
 returns-then-not-are_options c =
     inl (
       CutOption,
-      (sym c.owner.ensures ∙ c.is_root.ensures.0 c.if-not-is_root.false,
-       λ has. (let yes = c.are_options.ensures.1 (rw c.rdata.ensures.octets has) in absurd cc)),
+      (
+        sym c.owner.ensures ∙ c.is_root.ensures.0 c.if-not-is_root.false,
+        λ has. (let yes = c.are_options.ensures.1 (rw c.rdata.ensures.octets has) in absurd cc),
+      ),
       c.nothing_asked-then-not-are_options.ensures,
     )
 
