@@ -2,7 +2,7 @@
 
 from ctypes import byref, c_char, c_size_t, c_uint8
 from dataclasses import dataclass
-from typing import Any, ClassVar, Dict, NamedTuple, Optional, Tuple, Union
+from typing import ClassVar, Dict, NamedTuple, Optional, Tuple, Type, Union
 
 from . import _checks
 from ._errors import check
@@ -270,7 +270,7 @@ def _wire(what: str, name: object) -> bytes:
 
 
 # The classes of options, by their codes.
-_KINDS: Dict[int, Any] = {
-    kind.code: kind
-    for kind in (Nsid, ClientSubnet, Expire, Cookie, TcpKeepalive, Padding, Chain, ExtendedError, ReportChannel, ZoneVersion)
-}
+_ALL: Tuple[Type[OptionData], ...] = (
+    Nsid, ClientSubnet, Expire, Cookie, TcpKeepalive, Padding, Chain, ExtendedError, ReportChannel, ZoneVersion,
+)  # fmt: skip
+_KINDS: Dict[int, Type[OptionData]] = {kind.code: kind for kind in _ALL}

@@ -23,7 +23,7 @@
 //! | make names from names and labels | [`Name::from_labels`], [`Name::append`], [`Name::prepend_label`], [`Name::base_name`], [`Name::trim_to`], [`Name::to_wildcard`] |
 //! | print, compare, sort, hash | `Display`, `Ord`, `Hash`, [`sort_names`], [`Name::sort_key`], [`Name::zone_of`], [`Name::to_lowercase`] |
 //! | check a whole message, and read its header, its sections and its EDNS | [`Message`] |
-| read what EDNS options say, and make options that say it | [`EdnsOption`], [`EdnsOptionData`] |
+//! | read what EDNS options say, and make options that say it | [`EdnsOption`], [`EdnsOptionData`] |
 //! | read the records of a message, and their data by type or field by field | [`Record`], [`records()`], [`Record::data`] and [`RData`], [`Record::fields`] |
 //! | print records as lines of master files, and messages as `dig` does | `Display` of [`Record`] and [`Message`] |
 //! | build queries and replies, section by section, and write them within a size | [`MessageBuilder`] |

@@ -81,13 +81,17 @@ given p value = if p.is_given then Some value else None
 abbrev pub version_given : OptionParts → List ℕ → VersionValue
 version_given p own = record { labels = p.labels; version_type = p.version_type; version = own }
 
+-- an extended error, about which these octets are a text
+abbrev pub error_said : ℕ → List ℕ → OptionOutcome
+error_said code own = if is_utf8 own then Ok (extended_error code own) else Err Text
+
 -- What an option says by its parts and the octets that come after them; or these are no text or name.
 abbrev pub SaysOption : OptionCode → OptionParts → List ℕ → OptionOutcome → Type 0
 SaysOption codes.ClientSubnet p own result = result ≡ Ok (client_subnet p.family p.source p.scope own)
 SaysOption codes.Expire p own result = result ≡ Ok (expire (given p p.seconds))
 SaysOption codes.Cookie p own result = result ≡ Ok (cookie p.client own)
 SaysOption codes.TcpKeepalive p own result = result ≡ Ok (tcp_keepalive (given p p.timeout))
-SaysOption codes.ExtendedError p own result = result ≡ (if is_utf8 own then Ok (extended_error p.info_code own) else Err Text)
+SaysOption codes.ExtendedError p own result = result ≡ error_said p.info_code own
 SaysOption codes.ZoneVersion p own result = result ≡ Ok (zone_version (given p (version_given p own)))
 SaysOption code p own result = ReadsOption code own result
 

@@ -1,10 +1,11 @@
 //! EDNS options in parts: what an option says, read from its octets and written as them.
-ghost use Rattle.std.specs.Prelude.{◌≡◌, Ok, Err, length, IfOk, IfErr};
+ghost use Rattle.std.specs.Prelude.{◌≡◌, true, false, Ok, Err, length, IfOk, IfErr, MatchOption};
+ghost use Rattle.std.specs.Str.{is_utf8};
 ghost use Rattle.dnw_c_base.specs.Results.{Returns};
 ghost use Rattle.dnw_message_read.specs.Codes.{option_of_code};
 ghost use Rattle.dnw_message_read.specs.Rules.{option_octets};
 ghost use Rattle.dnw_message_read.specs.Values.{seen_option};
-ghost use Rattle.dnw_c_messages.specs.OptionValues.{PutsOptionOctets, ReadsOptionParts, SaysOption, given, of_option, only, parts_said};
+ghost use Rattle.dnw_c_messages.specs.OptionValues.{PutsOptionOctets, ReadsOptionParts, SaysOption, error_said, given, of_option, only, parts_said};
 
 use dnw_c_base::buffer::put;
 use dnw_c_base::failure::Failure;
@@ -183,13 +184,7 @@ fn option_of<'m>(
             server: own,
         }),
         OptionCode::TcpKeepalive => Ok(OptionData::TcpKeepalive(given(parts, parts.timeout))),
-        OptionCode::ExtendedError => match str::from_utf8(own) {
-            Ok(text) => Ok(OptionData::ExtendedError {
-                code: parts.info_code,
-                text,
-            }),
-            Err(_) => Err(OptionError::Text),
-        },
+        OptionCode::ExtendedError => error_of(parts.info_code, own),
         OptionCode::ZoneVersion => {
             let version = ZoneVersion {
                 labels: parts.labels,
@@ -203,6 +198,27 @@ fn option_of<'m>(
         | OptionCode::Chain
         | OptionCode::ReportChannel
         | OptionCode::Unknown(_) => OptionData::read(code, own),
+    }
+}
+
+/// Returns an extended error with this code, about which these octets are a text.
+fn error_of(code: u16, own: &[u8]) -> Result<OptionData<'_>, OptionError>
+    ensures ok { IfOk result (λ value. Ok (seen_option value) ≡ error_said code own.now) }
+    ensures err { IfErr result (λ error. Err error ≡ error_said code own.now) }
+{
+    match text_of(own) {
+        Some(text) => Ok(OptionData::ExtendedError { code, text }),
+        None => Err(OptionError::Text),
+    }
+}
+
+/// Returns octets as text, or `None` if they are not UTF-8.
+fn text_of(octets: &[u8]) -> Option<&str>
+    ensures { MatchOption result (is_utf8 octets.now ≡ false) (λ text. (text.now ≡ octets.now) × (is_utf8 octets.now ≡ true)) }
+{
+    match str::from_utf8(octets) {
+        Ok(text) => Some(text),
+        Err(_) => None,
     }
 }
 
