@@ -2,10 +2,13 @@ pub mod Sets
 pub mod OneForm
 pub mod SameSets
 pub mod Rrsigs
+pub mod KnownRrsig
 pub mod RecordKeys
+pub mod Lowering
 pub mod Putting
 pub mod Followed
 pub mod Listing
 pub mod Selecting
+pub mod OnlyOne
 pub mod Going
 pub mod Zones

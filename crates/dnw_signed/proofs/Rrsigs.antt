@@ -24,11 +24,11 @@ use Rattle.dnw_signed.specs.CanonicalData.{IsCanonical, canonical_labels, canoni
 use Rattle.dnw_signed.specs.SignedFields.{IsRrsig, IsSignedFields, before_signer}
 
 -- a field of this kind takes the same number of octets whatever is left
-record IsFixed (kind : Kind) : Type 0 where
+pub record IsFixed (kind : Kind) : Type 0 where
   pub other : IsNoName kind
   pub size : (left : List ℕ) → own_size kind left ≡ own_size kind []
 
-abbrev sizes : List Kind → ℕ
+abbrev pub sizes : List Kind → ℕ
 sizes [] = 0
 sizes (kind ∷ kinds) = own_size kind [] + sizes kinds
 
@@ -72,21 +72,21 @@ name_first kinds (name_piece own labels ∷ pieces) ((is, labels_are), are) =
 name_first kinds (octets_piece own ∷ pieces) are = absurd are.0
 
 -- the fields before the signer's name
-abbrev fixed_kinds : List Kind
+abbrev pub fixed_kinds : List Kind
 fixed_kinds = TypeCode ∷ U8 ∷ U8 ∷ U32 ∷ Time ∷ Time ∷ U16 ∷ []
 
 no_internet_type : is_internet_type 46 ≡ false
 unfolding is_internet_type
 no_internet_type = refl
 
-rrsig_kinds : (class : ℕ) (own : List ℕ) → 1 ≤ length own → fields_of class 46 own ≡ fixed_kinds ++ lowered_name ∷ base64 ∷ []
+pub rrsig_kinds : (class : ℕ) (own : List ℕ) → 1 ≤ length own → fields_of class 46 own ≡ fixed_kinds ++ lowered_name ∷ base64 ∷ []
 rrsig_kinds class [] some = absurd (omega (arith, some))
 rrsig_kinds class (o ∷ os) some = known_anywhere class 46 (o ∷ os) (λ none. absurd cc) no_internet_type
 
 always : (kind : Kind) → IsNoName kind → ((left : List ℕ) → own_size kind left ≡ own_size kind []) → IsFixed kind
 always kind other size = record { other = other; size = size }
 
-all_fixed : AllByRecursion IsFixed fixed_kinds
+pub all_fixed : AllByRecursion IsFixed fixed_kinds
 all_fixed = (
   always TypeCode tt (λ left. refl),
   (

@@ -70,7 +70,7 @@ selects_on {s} {fields} {done} {now} {before} {after} {most} {left} r one c is s
     }
 
 -- the record that is looked at, and those before and after it
-before_next : (records : List RecordValue) (r : RecordValue) (k : ℕ) → r ≡ get_or records k r → k < length records → take (k + 1) records ≡ take k records ++ r ∷ []
+pub before_next : (records : List RecordValue) (r : RecordValue) (k : ℕ) → r ≡ get_or records k r → k < length records → take (k + 1) records ≡ take k records ++ r ∷ []
 before_next records r k is less =
     let more : k + 1 ≡ suc k = omega arith in
     ap (λ n. take n records) more ∙ take-suc records k r less ∙ ap (λ x. take k records ++ x ∷ []) (sym is)

@@ -11,9 +11,9 @@ ghost use Rattle.dnw_signed.specs.Inside.Listing.{HoldsData, data_of};
 use crate::data_list::DataList;
 use crate::error::CanonicalError;
 use crate::fields::canonical_octets;
-use crate::set::{append_set, head_of, make_set};
+use crate::set::{SetHead, TYPE_CLASS_TTL, append_head, append_set, make_set};
 use dnw_base::decoder::BinDecoder;
-use dnw_base::limits::MAX_MESSAGE;
+use dnw_base::limits::{MAX_MESSAGE, MAX_NAME};
 use dnw_base::record_type::RecordType;
 use dnw_name::name_ref::NameRef;
 use dnw_record::rdata::RData;
@@ -43,14 +43,19 @@ pub fn record_set(
     ensures err { IfErr result (FailsSet records.now labels) }
 {
     let first = check(records, labels)?;
-    let code = u16::from(first.data.record_type());
-    let class = u16::from(first.dns_class());
-    let head = head_of(alloc, &first.name, code, class, labels, original_ttl)?;
+    let head = SetHead {
+        code: u16::from(first.data.record_type()),
+        class: u16::from(first.dns_class()),
+        labels,
+        original_ttl,
+    };
+    let mut begins = Vec::with_capacity(alloc, MAX_NAME + TYPE_CLASS_TTL)?;
+    append_head(&first.name.as_name_ref(), &head, &mut begins)?;
     let list = canonical_data(alloc, records)?;
     let mut all = list.slices(alloc)?;
     make_set(&mut all);
     let mut octets = Vec::new(alloc);
-    append_set(head.as_slice(), all.as_slice(), &mut octets)?;
+    append_set(begins.as_slice(), all.as_slice(), &mut octets)?;
     Ok(octets)
 }
 

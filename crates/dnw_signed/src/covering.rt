@@ -1,27 +1,28 @@
 //! What a signature covers of the records of a message.
-ghost use Rattle.std.specs.Prelude.{◌≡◌, ◌≤◌, ◌↔◌, ◌++◌, ℕ, List, [], drop, length, IfOk, IfErr, OnOk, OnErr, IsTrue};
+ghost use Rattle.std.specs.Prelude.{◌≡◌, ◌≤◌, ◌↔◌, ◌++◌, ℕ, List, [], drop, length, IfOk, IfErr, IfSome, OnOk, OnErr, IsTrue, MatchBool};
 ghost use Rattle.std.specs.List.{flat_map};
 ghost use Rattle.dnw_base.specs.Limits.{max_pointers};
+ghost use Rattle.dnw_base.specs.Names.{lower};
 ghost use Rattle.dnw_name_form.specs.Inside.WireBytes.{IsWire};
-ghost use Rattle.dnw_signed.specs.Covering.{AreCovered, FailsCovered, FailsRrsig, FailsToSign, HasRrsigType, IsCovered, IsRrsigOf, IsSigned};
+ghost use Rattle.dnw_signed.specs.Covering.{AreCovered, FailsCovered, FailsRrsig, FailsToSign, HasRrsigType, IsCovered, IsRightRrsig, IsRrsigOf, IsSigned};
 ghost use Rattle.dnw_signed.specs.Covering.{Selects, SignsFor, label_count, original_ttl, type_covered};
-ghost use Rattle.dnw_signed.specs.RecordSets.{set_record};
+ghost use Rattle.dnw_signed.specs.RecordSets.{IsInOrder, set_record};
 ghost use Rattle.dnw_signed.specs.SignedFields.{before_signer};
-ghost use Rattle.dnw_signed.specs.Inside.Going.{AreShort, all_octets};
+ghost use Rattle.dnw_signed.specs.Inside.Heads.{head_with};
 ghost use Rattle.dnw_signed.specs.Inside.Listing.{HoldsData, data_of};
-ghost use Rattle.dnw_signed.specs.Inside.Selecting.{FailsSelected, IsRrsigAs};
+ghost use Rattle.dnw_signed.specs.Inside.Selecting.{FailsRecords, FailsSelected, HasCanonical, IsOnlyCovered, IsRrsigAs};
 
 use crate::canonical::{BEFORE_SIGNER, cut_signature};
 use crate::data_list::DataList;
 use crate::error::CanonicalError;
-use crate::fields::put_record_data;
+use crate::fields::{append_lowered, put_record_data};
 use crate::pointers::pointers_left;
-use crate::set::{append_set, head_of, make_set};
-use dnw_base::limits::{MAX_NAME, MAX_POINTERS};
+use crate::set::{SetHead, TYPE_CLASS_TTL, append_data, append_head, append_set, make_set};
+use dnw_base::limits::{MAX_MESSAGE, MAX_NAME, MAX_POINTERS};
 use dnw_base::record_type::RecordType;
-use dnw_name::name::Name;
+use dnw_name::name_ref::NameRef;
 use dnw_name_form::wire_labels::WireLabels;
-use dnw_name_order::order::is_zone_of;
+use dnw_name_order::order::{eq_labels, is_zone_of};
 use dnw_record::rdata::RDataError;
 use dnw_record::record_ref::RecordRef;
 use std::alloc::{AllocError, Global};
@@ -29,12 +30,11 @@ use std::alloc::{AllocError, Global};
 /// The octets of the length of data.
 const LENGTH: usize = 2;
 
-/// An RRSIG of a message.
+/// The octets of the data of an RRSIG that its signature covers, and which records these are.
 #[derive(Drop)]
-pub(crate) struct Rrsig {
-    // The octets of its data that its signature covers.
-    fields: Vec<u8>,
-    owner: Name,
+pub(crate) struct Rrsig<'f> {
+    // The octets.
+    fields: &'f [u8],
     // Its signer is the owner, or a name that the owner is below.
     in_zone: bool,
 }
@@ -64,43 +64,85 @@ pub fn signed_octets(
     ensures err { IfErr result (FailsToSign rrsig.now records.now) }
     ensures same { OnErr result (out.new.items ≡ out.old.items) }
 {
-    let own = rrsig_of(alloc, rrsig)?;
-    let list = covered(alloc, rrsig, &own, records)?;
-    if list.is_empty() {
-        return Err(CanonicalError::NoRecords);
+    let before = out.len();
+    let outcome = append_signed(alloc, rrsig, records, out);
+    if outcome.is_err() {
+        out.truncate(before);
     }
-    let head = head_of(
-        alloc,
-        &own.owner,
-        type_covered(own.fields.as_slice()),
-        u16::from(rrsig.class()),
-        label_count(own.fields.as_slice()),
-        original_ttl(own.fields.as_slice()),
-    )?;
-    let mut all = list.slices(alloc)?;
-    make_set(&mut all);
-    Ok(append_signed(own.fields.as_slice(), head.as_slice(), all.as_slice(), out)?)
+    outcome
 }
 
-/// Returns the RRSIG that a record is.
-fn rrsig_of(alloc: Global, rrsig: &RecordRef<'_>) -> Result<Rrsig, CanonicalError>
-    ensures ok { IfOk result (IsRrsigAs rrsig.now) }
+/// Appends what the signature of an RRSIG covers. If it fails, a part may be appended.
+fn append_signed(
+    alloc: Global,
+    rrsig: &RecordRef<'_>,
+    records: &[RecordRef<'_>],
+    out: &mut Vec<u8>,
+) -> Result<(), CanonicalError>
+    ensures ok { OnOk result ((own : List ℕ) × IsSigned rrsig.now records.now own × (out.new.items ≡ out.old.items ++ own)) }
+    ensures err { IfErr result (FailsToSign rrsig.now records.now) }
+    ensures grows { (more : List ℕ) × (out.new.items ≡ out.old.items ++ more) }
+{
+    let start = out.len();
+    append_fields(alloc, rrsig, out)?;
+    append_records(alloc, rrsig, records, start, out)
+}
+
+/// Appends the octets of the data of an RRSIG that its signature covers. If it fails, a part may be appended.
+fn append_fields(
+    alloc: Global,
+    rrsig: &RecordRef<'_>,
+    out: &mut Vec<u8>,
+) -> Result<(), CanonicalError>
+    ensures ok { OnOk result ((fields : List ℕ) × IsRightRrsig rrsig.now fields × (out.new.items ≡ out.old.items ++ fields)) }
     ensures err { IfErr result (FailsRrsig rrsig.now) }
+    ensures grows { (more : List ℕ) × (out.new.items ≡ out.old.items ++ more) }
 {
     if u16::from(rrsig.record_type()) != u16::from(RecordType::RRSIG) {
         return Err(CanonicalError::NotRrsig);
     }
-    let fields = fields_of(alloc, rrsig)?;
-    if rrsig.owner().num_labels() < label_count(fields.as_slice()) {
+    let start = out.len();
+    append_own(alloc, rrsig, out)?;
+    if rrsig.owner().num_labels() < label_count(&out.as_slice()[start..]) {
         return Err(CanonicalError::TooFewLabels);
     }
-    let owner = rrsig.owner().to_name(alloc).unwrap();
-    let in_zone = signs_for(fields.as_slice(), &owner);
-    Ok(Rrsig {
-        fields,
-        owner,
-        in_zone,
-    })
+    Ok(())
+}
+
+/// Appends the octets of the data of an RRSIG that its signature covers, whatever it counts. If it fails, a part may be appended.
+fn append_own(alloc: Global, rrsig: &RecordRef<'_>, out: &mut Vec<u8>) -> Result<(), CanonicalError>
+    requires { HasRrsigType rrsig.now }
+    ensures ok { OnOk result ((fields : List ℕ) × IsRrsigOf rrsig.now fields × (out.new.items ≡ out.old.items ++ fields)) }
+    ensures err { IfErr result (FailsRrsig rrsig.now) }
+    ensures grows { (more : List ℕ) × (out.new.items ≡ out.old.items ++ more) }
+{
+    out.reserve(rrsig.rdata().len() + 2 * MAX_NAME)?;
+    if append_known(rrsig, out)? {
+        return Ok(());
+    }
+    let fields = fields_of(alloc, rrsig)?;
+    out.extend_from_slice(fields.as_slice())?;
+    Ok(())
+}
+
+/// Appends the octets of the data of an RRSIG that its signature covers, if they begin as they should, and returns `true`. If it
+/// fails, a part may be appended.
+fn append_known(rrsig: &RecordRef<'_>, out: &mut Vec<u8>) -> Result<bool, AllocError>
+    requires { HasRrsigType rrsig.now }
+    ensures ok { IfOk result (λ known. MatchBool known
+        ((fields : List ℕ) × IsRrsigOf rrsig.now fields × (out.new.items ≡ out.old.items ++ fields)) (out.new.items ≡ out.old.items)) }
+    ensures grows { (more : List ℕ) × (out.new.items ≡ out.old.items ++ more) }
+{
+    let mut reader = rrsig.data_decoder();
+    let Ok(fixed) = reader.read_slice(BEFORE_SIGNER) else {
+        return Ok(false);
+    };
+    let Ok(signer) = NameRef::read(&mut reader) else {
+        return Ok(false);
+    };
+    out.extend_from_slice(fixed.unverified())?;
+    append_lowered(signer.wire_labels(&mut [0; MAX_NAME]), out)?;
+    Ok(true)
 }
 
 /// Returns the octets of the data of an RRSIG that its signature covers.
@@ -124,25 +166,149 @@ fn fields_of(alloc: Global, rrsig: &RecordRef<'_>) -> Result<Vec<u8>, CanonicalE
 }
 
 /// Returns `true` if the signer is the owner, or a name that the owner is below.
-fn signs_for(fields: &[u8], owner: &Name) -> bool
+fn signs_for(fields: &[u8], owner: &NameRef<'_>) -> bool
     requires { IsWire (drop before_signer fields.now) }
-    ensures { IsTrue result ↔ SignsFor fields.now owner.now.labels }
+    ensures { IsTrue result ↔ SignsFor fields.now owner.now }
 {
     let signer = WireLabels::new(&fields[BEFORE_SIGNER..]);
-    is_zone_of(signer, owner.wire_labels())
+    is_zone_of(signer, owner.wire_labels(&mut [0; MAX_NAME]))
+}
+
+/// Appends the records that an RRSIG covers, as a set, after the octets of its data, which begin at an offset. If it fails, a part may
+/// be appended.
+fn append_records(
+    alloc: Global,
+    rrsig: &RecordRef<'_>,
+    records: &[RecordRef<'_>],
+    start: usize,
+    out: &mut Vec<u8>,
+) -> Result<(), CanonicalError>
+    requires within { start ≤ length out.old.items }
+    requires right { IsRightRrsig rrsig.now (drop start out.old.items) }
+    ensures ok { OnOk result ((own : List ℕ) × IsSigned rrsig.now records.now (drop start out.old.items ++ own)
+        × (out.new.items ≡ out.old.items ++ own)) }
+    ensures err { IfErr result (FailsRecords rrsig.now (drop start out.old.items) records.now) }
+    ensures grows { (more : List ℕ) × (out.new.items ≡ out.old.items ++ more) }
+{
+    let fields = &out.as_slice()[start..];
+    let own = Rrsig {
+        fields,
+        in_zone: signs_for(fields, rrsig.owner()),
+    };
+    let head = SetHead {
+        code: type_covered(fields),
+        class: u16::from(rrsig.class()),
+        labels: label_count(fields),
+        original_ttl: original_ttl(fields),
+    };
+    match only_covered(rrsig, &own, records) {
+        Some((number, item)) => append_only(alloc, rrsig, &head, number, item, out),
+        None => {
+            let list = covered(alloc, rrsig, &own, records)?;
+            if list.is_empty() {
+                return Err(CanonicalError::NoRecords);
+            }
+            Ok(append_list(alloc, rrsig.owner(), &head, &list, out)?)
+        }
+    }
+}
+
+/// Returns the number of the record that an RRSIG covers, and the record, if it is the only one.
+fn only_covered<'a, 'r>(
+    rrsig: &RecordRef<'_>,
+    own: &Rrsig<'_>,
+    records: &'a [RecordRef<'r>],
+) -> Option<(usize, &'a RecordRef<'r>)>
+    requires { IsRrsigAs rrsig.now own.now }
+    ensures { IfSome result (λ only. IsOnlyCovered rrsig.now own.now.fields.now records.now only.0 only.1.now) }
+{
+    let mut only = None;
+    let mut number = 0;
+    'records: for item in records {
+        if is_covered(rrsig, own, item) {
+            if only.is_some() {
+                return None;
+            }
+            only = Some((number, item));
+        }
+        number += 1;
+    }
+    only
+}
+
+/// Appends the only record that an RRSIG covers, which has this number. If it fails, a part may be appended.
+fn append_only(
+    alloc: Global,
+    rrsig: &RecordRef<'_>,
+    head: &SetHead,
+    number: usize,
+    item: &RecordRef<'_>,
+    out: &mut Vec<u8>,
+) -> Result<(), CanonicalError>
+    ensures ok { OnOk result ((octets : List ℕ) × HasCanonical item.now octets
+        × (out.new.items ≡ out.old.items ++ set_record (head_with rrsig.now.owner head.now) octets)) }
+    ensures err { IfErr result (FailsSelected item.now max_pointers number) }
+    ensures grows { (more : List ℕ) × (out.new.items ≡ out.old.items ++ more) }
+{
+    let octets = canonical_of(alloc, number, item)?;
+    append_head(rrsig.owner(), head, out)?;
+    append_data(octets.as_slice(), out)?;
+    Ok(())
+}
+
+/// Returns the data in canonical form of the record with this number, which is the first that an RRSIG covers.
+fn canonical_of(
+    alloc: Global,
+    record: usize,
+    item: &RecordRef<'_>,
+) -> Result<Vec<u8>, CanonicalError>
+    ensures ok { IfOk result (λ octets. HasCanonical item.now octets.items) }
+    ensures err { IfErr result (FailsSelected item.now max_pointers «record») }
+{
+    let Some(_) = pointers_left(item, MAX_POINTERS) else {
+        return Err(CanonicalError::TooManyPointers { record });
+    };
+    let mut octets = Vec::with_capacity(alloc, item.rdata().len() + MAX_NAME)?;
+    match put_record_data(item, &mut octets) {
+        Ok(()) if octets.len() <= MAX_MESSAGE as usize => Ok(octets),
+        Ok(()) => Err(CanonicalError::DataTooLong { record }),
+        Err(RDataError::Field(error)) => Err(CanonicalError::Field { record, error }),
+        Err(RDataError::Memory) => Err(CanonicalError::Memory),
+    }
+}
+
+/// Appends the records with these data, as a set. If it fails, a part may be appended.
+fn append_list(
+    alloc: Global,
+    owner: &NameRef<'_>,
+    head: &SetHead,
+    list: &DataList,
+    out: &mut Vec<u8>,
+) -> Result<(), AllocError>
+    requires { HoldsData list.now }
+    ensures ok { OnOk result ((sorted : List (List ℕ)) × IsInOrder (data_of list.now) sorted
+        × (out.new.items ≡ out.old.items ++ flat_map (set_record (head_with owner.now head.now)) sorted)) }
+    ensures grows { (more : List ℕ) × (out.new.items ≡ out.old.items ++ more) }
+{
+    let mut begins = Vec::with_capacity(alloc, MAX_NAME + TYPE_CLASS_TTL)?;
+    append_head(owner, head, &mut begins)?;
+    let mut all = list.slices(alloc)?;
+    make_set(&mut all);
+    out.reserve(set_size(begins.as_slice(), all.as_slice()))?;
+    append_set(begins.as_slice(), all.as_slice(), out)
 }
 
 /// Returns the data in canonical form of the records that an RRSIG covers.
 fn covered(
     alloc: Global,
     rrsig: &RecordRef<'_>,
-    own: &Rrsig,
+    own: &Rrsig<'_>,
     records: &[RecordRef<'_>],
 ) -> Result<DataList, CanonicalError>
     requires { IsRrsigAs rrsig.now own.now }
     ensures ok { IfOk result (λ list. HoldsData list × (left : ℕ)
-        × AreCovered rrsig.now own.now.fields.items records.now max_pointers (data_of list) left × (data_of list ≡ [] → left ≡ max_pointers)) }
-    ensures err { IfErr result (FailsCovered rrsig.now own.now.fields.items records.now) }
+        × AreCovered rrsig.now own.now.fields.now records.now max_pointers (data_of list) left × (data_of list ≡ [] → left ≡ max_pointers)) }
+    ensures err { IfErr result (FailsCovered rrsig.now own.now.fields.now records.now) }
 {
     let mut list = DataList::new(alloc);
     let mut left = MAX_POINTERS;
@@ -158,7 +324,7 @@ fn covered(
 /// from those that are `left`.
 fn select(
     rrsig: &RecordRef<'_>,
-    own: &Rrsig,
+    own: &Rrsig<'_>,
     item: &RecordRef<'_>,
     number: usize,
     left: &mut usize,
@@ -166,9 +332,9 @@ fn select(
 ) -> Result<(), CanonicalError>
     requires rrsig { IsRrsigAs rrsig.now own.now }
     requires listed { HoldsData list.old }
-    ensures ok { OnOk result ((more : List (List ℕ)) × Selects rrsig.now own.now.fields.items item.now left.old more left.new
+    ensures ok { OnOk result ((more : List (List ℕ)) × Selects rrsig.now own.now.fields.now item.now left.old more left.new
         × HoldsData list.new × (data_of list.new ≡ data_of list.old ++ more)) }
-    ensures err { IfErr result (λ error. IsCovered rrsig.now own.now.fields.items item.now × FailsSelected item.now left.old number error) }
+    ensures err { IfErr result (λ error. IsCovered rrsig.now own.now.fields.now item.now × FailsSelected item.now left.old number error) }
 {
     if !is_covered(rrsig, own, item) {
         return Ok(());
@@ -189,14 +355,25 @@ fn select(
 }
 
 /// Returns `true` if an RRSIG covers a record (RFC 4035, section 5.3.1).
-fn is_covered(rrsig: &RecordRef<'_>, own: &Rrsig, item: &RecordRef<'_>) -> bool
+fn is_covered(rrsig: &RecordRef<'_>, own: &Rrsig<'_>, item: &RecordRef<'_>) -> bool
     requires { IsRrsigAs rrsig.now own.now }
-    ensures { IsTrue result ↔ IsCovered rrsig.now own.now.fields.items item.now }
+    ensures { IsTrue result ↔ IsCovered rrsig.now own.now.fields.now item.now }
 {
     own.in_zone
-        && u16::from(item.record_type()) == type_covered(own.fields.as_slice())
+        && u16::from(item.record_type()) == type_covered(own.fields)
         && u16::from(item.class()) == u16::from(rrsig.class())
-        && item.owner().eq_name(&own.owner)
+        && is_same_name(item.owner(), rrsig.owner())
+}
+
+/// Returns `true` if names are the same, ignoring ASCII case.
+fn is_same_name(name: &NameRef<'_>, other: &NameRef<'_>) -> bool
+    ensures { IsTrue result ↔ (lower name.now ≡ lower other.now) }
+{
+    name.encoded_len() == other.encoded_len()
+        && eq_labels(
+            name.wire_labels(&mut [0; MAX_NAME]),
+            other.wire_labels(&mut [0; MAX_NAME]),
+        )
 }
 
 /// Returns the type that an RRSIG covers (RFC 4034, section 3.1.1).
@@ -223,47 +400,12 @@ fn original_ttl(fields: &[u8]) -> u32
     u32::from_be_bytes([fields[4], fields[5], fields[6], fields[7]])
 }
 
-/// Appends all that is signed, or nothing.
-fn append_signed(
-    fields: &[u8],
-    head: &[u8],
-    all: &[&[u8]],
-    out: &mut Vec<u8>,
-) -> Result<(), AllocError>
-    requires { AreShort all.now }
-    ensures ok { OnOk result (out.new.items ≡ out.old.items ++ (fields.now ++ flat_map (set_record head.now) (all_octets all.now))) }
-    ensures same { OnErr result (out.new.items ≡ out.old.items) }
-{
-    out.reserve(signed_size(fields, head, all))?;
-    let before = out.len();
-    let outcome = append_parts(fields, head, all, out);
-    if outcome.is_err() {
-        out.truncate(before);
-    }
-    outcome
-}
-
-/// Returns how many octets all that is signed takes.
-fn signed_size(fields: &[u8], head: &[u8], all: &[&[u8]]) -> usize {
-    let mut size = fields.len();
+/// Returns how many octets the records of a set take that begin with these octets and have these data.
+fn set_size(head: &[u8], all: &[&[u8]]) -> usize {
+    let mut size = 0usize;
     for item in all {
         let own = item.len().saturating_add(LENGTH);
         size = size.saturating_add(head.len()).saturating_add(own);
     }
     size
-}
-
-/// Appends all that is signed. If it fails, a part may be appended.
-fn append_parts(
-    fields: &[u8],
-    head: &[u8],
-    all: &[&[u8]],
-    out: &mut Vec<u8>,
-) -> Result<(), AllocError>
-    requires { AreShort all.now }
-    ensures ok { OnOk result (out.new.items ≡ out.old.items ++ (fields.now ++ flat_map (set_record head.now) (all_octets all.now))) }
-    ensures grows { (more : List ℕ) × (out.new.items ≡ out.old.items ++ more) }
-{
-    out.extend_from_slice(fields)?;
-    append_set(head, all, out)
 }

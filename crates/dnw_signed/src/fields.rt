@@ -14,7 +14,6 @@ use dnw_data::fields::FieldError;
 use dnw_data::kind::{Kind, NameForm};
 use dnw_data::table;
 use dnw_name::name_ref::NameRef;
-use dnw_name_form::octets::Octets;
 use dnw_name_form::wire_labels::WireLabels;
 use dnw_record::rdata::{RData, RDataError};
 use dnw_record::record_ref::RecordRef;
@@ -132,12 +131,13 @@ fn append_canonical(
 
 /// Appends the wire form of a name in lower case.
 pub(crate) fn append_lowered(labels: WireLabels<'_>, out: &mut Vec<u8>) -> Result<(), AllocError>
-    ensures { OnOk result (out.new.items ≡ out.old.items ++ wire (lower labels.entry)) }
+    ensures ok { OnOk result (out.new.items ≡ out.old.items ++ wire (lower labels.entry)) }
+    ensures grows { (more : List ℕ) × (out.new.items ≡ out.old.items ++ more) }
 {
-    let mut own = Octets::from_slice(labels.as_wire());
+    let start = out.len();
+    out.extend_from_slice(labels.as_wire())?;
     // Length octets are no letters.
-    own.make_ascii_lowercase();
-    out.extend_from_slice(own.as_slice())?;
+    out.as_mut_slice()[start..].make_ascii_lowercase();
     Ok(())
 }
 

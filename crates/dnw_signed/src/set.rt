@@ -1,52 +1,62 @@
 //! Sets of data, and the records that they are written as.
 ghost use Rattle.std.specs.Prelude.{◌≡◌, ℕ, ◌≤◌, ◌++◌, List, length, map, IfOk, OnOk, OnErr};
+ghost use Rattle.std.specs.Int.{w16, to_be_bytes};
 ghost use Rattle.std.specs.List.{All, flat_map};
 ghost use Rattle.dnw_base.specs.Limits.{max_message};
 ghost use Rattle.dnw_base.specs.Names.{lower, wire};
-ghost use Rattle.dnw_signed.specs.RecordSets.{IsInOrder, head_octets, set_record, signed_owner};
+ghost use Rattle.dnw_signed.specs.RecordSets.{IsInOrder, set_record, signed_owner};
 ghost use Rattle.dnw_signed.specs.Inside.Going.{AreShort, all_octets};
+ghost use Rattle.dnw_signed.specs.Inside.Heads.{head_with};
 
 use crate::fields::append_lowered;
 use dnw_base::limits::MAX_NAME;
-use dnw_name::name::Name;
-use std::alloc::{AllocError, Global};
+use dnw_name::name_ref::NameRef;
+use dnw_name_form::wire_labels::last_labels;
+use std::alloc::AllocError;
 
 /// The octets of a record between its owner and the length of its data.
-const TYPE_CLASS_TTL: usize = 8;
+pub(crate) const TYPE_CLASS_TTL: usize = 8;
 
 /// The wire form of the label `*`.
 const WILDCARD: &[u8] = b"\x01*";
 
-/// Returns what each record begins with.
-pub(crate) fn head_of(
-    alloc: Global,
-    owner: &Name,
-    code: u16,
-    class: u16,
-    labels: u8,
-    original_ttl: u32,
-) -> Result<Vec<u8>, AllocError>
-    ensures { IfOk result (λ head. head.items ≡ head_octets owner.now.labels code class labels original_ttl) }
-{
-    let mut head = Vec::with_capacity(alloc, MAX_NAME + TYPE_CLASS_TTL)?;
-    put_owner(owner, labels, &mut head)?;
-    head.extend_from_slice(&u16::to_be_bytes(code))?;
-    head.extend_from_slice(&u16::to_be_bytes(class))?;
-    head.extend_from_slice(&u32::to_be_bytes(original_ttl))?;
-    Ok(head)
+/// What the records of a set begin with, after their owner, and the labels of the owner that a signature counts.
+#[derive(Clone, Copy)]
+pub(crate) struct SetHead {
+    pub(crate) code: u16,
+    pub(crate) class: u16,
+    pub(crate) labels: u8,
+    pub(crate) original_ttl: u32,
 }
 
-/// Appends the owner as it was signed: in lower case, and if it has more than `labels` labels, the last of them after `*`.
-fn put_owner(name: &Name, labels: u8, head: &mut Vec<u8>) -> Result<(), AllocError>
-    ensures { OnOk result (head.new.items ≡ head.old.items ++ wire (signed_owner (lower name.now.labels) labels)) }
+/// Appends what each record begins with. If it fails, a part may be appended.
+pub(crate) fn append_head(
+    owner: &NameRef<'_>,
+    head: &SetHead,
+    out: &mut Vec<u8>,
+) -> Result<(), AllocError>
+    ensures ok { OnOk result (out.new.items ≡ out.old.items ++ head_with owner.now head.now) }
+    ensures grows { (more : List ℕ) × (out.new.items ≡ out.old.items ++ more) }
 {
-    if name.wire_labels().len() <= labels as usize {
-        return append_lowered(name.wire_labels(), head);
+    append_owner(owner, head.labels, out)?;
+    out.extend_from_slice(&u16::to_be_bytes(head.code))?;
+    out.extend_from_slice(&u16::to_be_bytes(head.class))?;
+    out.extend_from_slice(&u32::to_be_bytes(head.original_ttl))
+}
+
+/// Appends the owner as it was signed: in lower case, and if it has more than `labels` labels, the last of them after `*`. If it
+/// fails, a part may be appended.
+fn append_owner(owner: &NameRef<'_>, labels: u8, out: &mut Vec<u8>) -> Result<(), AllocError>
+    ensures ok { OnOk result (out.new.items ≡ out.old.items ++ wire (signed_owner (lower owner.now) labels)) }
+    ensures grows { (more : List ℕ) × (out.new.items ≡ out.old.items ++ more) }
+{
+    let mut room = [0; MAX_NAME];
+    let own = owner.wire_labels(&mut room);
+    if owner.num_labels() <= labels {
+        return append_lowered(own, out);
     }
-    let owner = name.to_lowercase().unwrap();
-    let last = owner.trim_to(labels as usize).unwrap();
-    head.extend_from_slice(WILDCARD)?;
-    head.extend_from_slice(last.as_wire())
+    out.extend_from_slice(WILDCARD)?;
+    append_lowered(last_labels(own, labels as usize), out)
 }
 
 /// Puts octets in ascending order, and removes duplicates.
@@ -78,6 +88,15 @@ fn append_record(head: &[u8], own: &[u8], out: &mut Vec<u8>) -> Result<(), Alloc
     ensures grows { (more : List ℕ) × (out.new.items ≡ out.old.items ++ more) }
 {
     out.extend_from_slice(head)?;
+    append_data(own, out)
+}
+
+/// Appends data after their length.
+pub(crate) fn append_data(own: &[u8], out: &mut Vec<u8>) -> Result<(), AllocError>
+    requires { length own.now ≤ max_message }
+    ensures ok { OnOk result (out.new.items ≡ out.old.items ++ (to_be_bytes w16 (length own.now) ++ own.now)) }
+    ensures grows { (more : List ℕ) × (out.new.items ≡ out.old.items ++ more) }
+{
     out.extend_from_slice(&u16::to_be_bytes(own.len() as u16))?;
     out.extend_from_slice(own)
 }
