@@ -99,7 +99,7 @@ enum Refusal {
     #[error("refused: wanted hexadecimal digits, two for each octet")]
     Digits,
     /// A stream of messages ends within a length or a message.
-    #[error("refused: wanted {wanted} octets, and {found} are left")]
+    #[error("refused: wanted {wanted} octets, found {found}")]
     Cut {
         /// How many octets the length, or the message, has.
         wanted: usize,
