@@ -8,4 +8,7 @@ pub mod ZoneTexts
 pub mod Written
 pub mod ShortLines
 pub mod WriterLaws
+pub mod Findings
+pub mod HostNames
+pub mod Checks
 pub mod Inside
