@@ -391,6 +391,60 @@ static void reads_hostile_texts(void)
     }
 }
 
+/* The lines of a zone, in canonical order of their owners, and a line for each finding. */
+static const char *const checked[] = {
+    "a. 60 SOA ns.a. h.a. 1 2 3 4 5",
+    "a. 60 SOA ns.a. h.a. 2 2 3 4 5",
+    "a. 60 NS ns.a.",
+    "A. 60 NS lost.a.",
+    "c.a. 60 CNAME ns.a.",
+    "c.a. 60 TXT x",
+    "d.a. 60 DNAME b.",
+    "x.d.a. 60 TXT x",
+    "ds.a. 60 DS 1 13 2 aa",
+    "m.a. 60 MX 5 c.a.",
+    "n_s.a. 60 A 192.0.2.1",
+    "ns.a. 60 A 192.0.2.1",
+    "ns.a. 61 A 192.0.2.2",
+    "s.a. 60 SOA ns.a. h.a. 1 2 3 4 5",
+    "sub.a. 60 NS sub.a.",
+    "sub.a. 60 A 192.0.2.3",
+    "x.sub.a. 60 TXT x",
+    "z.a. 60 CH TXT x",
+    "b. 60 TXT x",
+};
+static const struct dnw_zone_finding wanted[] = {
+    {DNW_CHECK_TWO_OF_ONE, true, 1, 0},         {DNW_CHECK_NO_ADDRESS, true, 3, SIZE_MAX},
+    {DNW_CHECK_CNAME_AND_OTHER, true, 4, 5},    {DNW_CHECK_BELOW_DNAME, true, 7, 6},
+    {DNW_CHECK_DS_ELSEWHERE, true, 8, SIZE_MAX}, {DNW_CHECK_SERVER_IS_ALIAS, true, 9, 4},
+    {DNW_CHECK_NO_HOST_NAME, false, 10, SIZE_MAX}, {DNW_CHECK_OTHER_TTL, false, 12, 11},
+    {DNW_CHECK_SOA_ELSEWHERE, true, 13, SIZE_MAX}, {DNW_CHECK_BELOW_DELEGATION, false, 16, 14},
+    {DNW_CHECK_OTHER_CLASS, true, 17, SIZE_MAX}, {DNW_CHECK_OUT_OF_ZONE, true, 18, SIZE_MAX},
+};
+
+static void checks_zones(void)
+{
+    static uint8_t records[ROOM];
+    struct dnw_zone_finding found[32] = {{0, false, 0, 0}};
+    size_t end = 0, last = 0, len = 0, count = 77;
+    const size_t all = sizeof wanted / sizeof *wanted;
+    for (size_t n = 0; n < sizeof checked / sizeof *checked; n++, last = end, end += len)
+        EXPECT(dnw_record_parse((const uint8_t *)checked[n], strlen(checked[n]), NULL, 0, records + end, sizeof records - end, &len) == DNW_DONE);
+    EXPECT(dnw_zone_check(BYTES("\001A\000"), records, end, found, all - 1, &count) == DNW_NO_ROOM && count == 77);
+    EXPECT(dnw_zone_check(BYTES("\001A\000"), records, end, found, 32, &count) == DNW_DONE && count == all);
+    for (size_t n = 0; n < all; n++)
+        EXPECT(found[n].check == wanted[n].check && found[n].is_error == wanted[n].is_error && found[n].number == wanted[n].number && found[n].other == wanted[n].other);
+    EXPECT(found[all].check == 0);
+    EXPECT(dnw_zone_check(BYTES("\001a\000"), records, 0, found, 2, &count) == DNW_DONE && count == 2);
+    EXPECT(found[0].check == DNW_CHECK_NO_SOA && found[0].number == SIZE_MAX && found[1].check == DNW_CHECK_NO_NS && found[1].is_error);
+    EXPECT(dnw_zone_check(BYTES("\001a\000"), records, end - 1, found, 32, &count) == DNW_MESSAGE_CUT && count == 2);
+    EXPECT(dnw_zone_check(BYTES("\001a"), records, end, found, 32, &count) == DNW_MESSAGE_CUT);
+    EXPECT(dnw_zone_check(BYTES("\001a\000\000"), records, end, found, 32, &count) == DNW_BYTES_LEFT);
+    memcpy(records + end, records + last, end - last);
+    memcpy(records + end, "\001a", 2);
+    EXPECT(dnw_zone_check(BYTES("\001a\000"), records, end + end - last, found, 32, &count) == DNW_BAD_ITEM && count == 2);
+}
+
 int main(void)
 {
     reads_the_example();
@@ -404,5 +458,6 @@ int main(void)
     writes_lines();
     writes_nothing();
     reads_hostile_texts();
+    checks_zones();
     return 0;
 }

@@ -693,6 +693,51 @@ uint32_t dnw_zone_put_origin(const uint8_t *origin, size_t origin_len, struct dn
    `zone` after it. It fails with DNW_BAD_ITEM if the state is spoiled, with DNW_NO_ROOM, and with DNW_NO_MEMORY. */
 uint32_t dnw_zone_put_ttl(uint32_t ttl, struct dnw_zone *zone, uint8_t *text, size_t text_size, size_t *len);
 
+/* What dnw_zone_check finds. All are errors, which servers refuse or serve wrong, but for DNW_CHECK_OTHER_TTL,
+   DNW_CHECK_BELOW_DELEGATION and DNW_CHECK_NO_HOST_NAME, which are warnings. */
+enum dnw_check {
+    DNW_CHECK_NO_SOA = 1,            /* the apex has no SOA record (RFC 1035, section 5.2) */
+    DNW_CHECK_NO_NS = 2,             /* the apex has no NS record (RFC 1034, section 4.2.1) */
+    DNW_CHECK_OUT_OF_ZONE = 3,       /* the owner is not in the zone; nothing else is found of such a record */
+    DNW_CHECK_OTHER_CLASS = 4,       /* the class is not that of the first record (RFC 1035, section 5.2) */
+    DNW_CHECK_SOA_ELSEWHERE = 5,     /* a SOA record is not at the apex */
+    DNW_CHECK_TWO_OF_ONE = 6,        /* a name has two SOA, CNAME (RFC 2181, section 10.1) or DNAME records (RFC 6672, section
+                                        2.4) with different data; `other` is the first */
+    DNW_CHECK_OTHER_TTL = 7,         /* the TTL is not that of the set's first record, `other` (RFC 2181, section 5.2) */
+    DNW_CHECK_CNAME_AND_OTHER = 8,   /* the owner of a CNAME record has other data, `other` (RFC 2181, section 10.1); SIG, KEY
+                                        and NXT (RFC 2535), RRSIG and NSEC may be there (RFC 4034) */
+    DNW_CHECK_DS_ELSEWHERE = 9,      /* a DS record is at the apex, or where no NS record is (RFC 4035, section 2.4) */
+    DNW_CHECK_BELOW_DNAME = 10,      /* the owner is below that of a DNAME record, `other` (RFC 6672, section 2.4) */
+    DNW_CHECK_BELOW_DELEGATION = 11, /* the owner is below that of an NS record, `other`, and the record is no address */
+    DNW_CHECK_NO_HOST_NAME = 12,     /* the owner of an A, AAAA or MX record is no name of a host (RFC 952; RFC 1123, section
+                                        2.1), and no wildcard of such names */
+    DNW_CHECK_SERVER_IS_ALIAS = 13,  /* the name that an NS, MX or SRV record has is the owner of a CNAME record, `other` (RFC
+                                        2181, section 10.3; RFC 2782) */
+    DNW_CHECK_NO_ADDRESS = 14        /* that name is in the zone, and neither it nor the wildcard beside it has an A or AAAA
+                                        record; an MX or SRV record may name what is at a delegation or below one */
+};
+
+/* A finding of dnw_zone_check. */
+struct dnw_zone_finding {
+    uint32_t check; /* one of enum dnw_check */
+    bool is_error;
+    size_t number; /* of the record, from 0, or SIZE_MAX if it is about no record */
+    size_t other;  /* of another record, or SIZE_MAX */
+};
+
+/* Stores what a zone has that the standards forbid or advise against, as findings, and their number in `count`: first those of
+   the apex, and then those of each record in turn. `zone` is the wire form of the apex. `records` are the records of the zone,
+   glue too, one after another, in canonical order of their owners (RFC 4034, section 6.1): the order of dnw_record_sort_key is
+   one. No record has more than ten findings, and the apex two. What DNSSEC asks of a zone is not checked.
+
+   If the apex is not a wire form, it fails as dnw_name_compare. Otherwise it fails as dnw_record_read for the first record that
+   is not valid, but never for the room of the owner; with DNW_TOO_MANY_POINTERS at the first record whose owner, with those
+   before it, follows more than 65536 compression pointers; with DNW_BAD_ITEM if the owner of a record is before that of the
+   record before it; with DNW_NO_ROOM if there are more than `findings_size` findings; and with DNW_NO_MEMORY. Then nothing is
+   stored. Data of NS, MX and SRV records that have no name are passed over. */
+uint32_t dnw_zone_check(const uint8_t *zone, size_t zone_len, const uint8_t *records, size_t records_len,
+                        struct dnw_zone_finding *findings, size_t findings_size, size_t *count);
+
 /* Stores the octets that the signature of an RRSIG covers (RFC 4034, section 3.1.8.1), the bytes to verify or to sign,
    and their number in `len`.
 

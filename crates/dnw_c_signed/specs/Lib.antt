@@ -1,3 +1,4 @@
+pub mod CheckCalls
 pub mod RecordCalls
 pub mod RecordKeyCalls
 pub mod SigningCalls

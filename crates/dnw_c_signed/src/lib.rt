@@ -16,3 +16,5 @@ pub mod signing;
 pub mod sums;
 /// The digest of a zone.
 pub mod zones;
+/// Checks of zones.
+pub mod zone_checks;

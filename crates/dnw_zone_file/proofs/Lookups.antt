@@ -14,7 +14,7 @@ use Rattle.std.specs.declared.cmp.Ordering.TheVariants.{Less, Equal, Greater}
 use Rattle.dnw_base.specs.RecordTypes.{type_code}
 use Rattle.dnw_name_order.specs.Order.{canonical, labels_cmp}
 use Rattle.dnw_record.specs.Records.{RecordValue}
-use Rattle.dnw_zone_file.specs.Checks.{AreInOrder, first_at, is_same}
+use Rattle.dnw_zone_file.specs.Checks.{OwnersAreInOrder, first_at, is_same}
 
 -- ---- the order of names
 
@@ -65,29 +65,29 @@ not_same_if_after x y h = ap is_eq (labels_total.antisymm x y ∙ ap ordering_re
 
 -- ---- records in order
 
-far : (zs : List RecordValue) → AreInOrder zs → (i j : ℕ) (d : RecordValue) → i ≤ j → j < length zs
+far : (zs : List RecordValue) → OwnersAreInOrder zs → (i j : ℕ) (d : RecordValue) → i ≤ j → j < length zs
     → is_lt (labels_cmp (get_or zs j d).owner (get_or zs i d).owner) ≡ false
-unfolding AreInOrder
+unfolding OwnersAreInOrder
 far zs up i j d a b = sorted_far (λ r s. is_lt (labels_cmp r.owner s.owner)) (ranks_by labels_total (λ r. r.owner)) zs up i j d a b
 
 -- the element, whatever the default is
 same_item : (zs : List RecordValue) (i : ℕ) (r d : RecordValue) → i < length zs → r ≡ get_or zs i r → get_or zs i d ≡ r
 same_item zs i r d h is = get_or_default zs i d r h ∙ sym is
 
-pub before_middle : (zs : List RecordValue) (name : List (List ℕ)) (m : ℕ) (r : RecordValue) → AreInOrder zs → m < length zs → r ≡ get_or zs m r
+pub before_middle : (zs : List RecordValue) (name : List (List ℕ)) (m : ℕ) (r : RecordValue) → OwnersAreInOrder zs → m < length zs → r ≡ get_or zs m r
     → is_lt (labels_cmp r.owner name) ≡ true → (k : ℕ) (d : RecordValue) → k < m + 1 → is_lt (labels_cmp (get_or zs k d).owner name) ≡ true
 before_middle zs name m r up h is lt k d below =
     so_true _ (λ none. true≢false (sym lt ∙ names_rank.chain r.owner (get_or zs k d).owner name
     (subst (λ (x : RecordValue). is_lt (labels_cmp x.owner (get_or zs k d).owner) ≡ false) (same_item zs m r d h is) (far zs up k m d (omega arith) h)) none))
 
-pub from_middle : (zs : List RecordValue) (name : List (List ℕ)) (m : ℕ) (r : RecordValue) → AreInOrder zs → m < length zs → r ≡ get_or zs m r
+pub from_middle : (zs : List RecordValue) (name : List (List ℕ)) (m : ℕ) (r : RecordValue) → OwnersAreInOrder zs → m < length zs → r ≡ get_or zs m r
     → is_lt (labels_cmp r.owner name) ≡ false → (k : ℕ) (d : RecordValue) → m ≤ k → k < length zs → is_lt (labels_cmp (get_or zs k d).owner name) ≡ false
 from_middle zs name m r up h is not k d above within =
     names_rank.chain (get_or zs k d).owner r.owner name
     (subst (λ (x : RecordValue). is_lt (labels_cmp (get_or zs k d).owner x.owner) ≡ false) (same_item zs m r d h is) (far zs up m k d above within)) not
 
 -- from a record after the name on, none has it
-past : (zs : List RecordValue) (name : List (List ℕ)) (i : ℕ) (r : RecordValue) → AreInOrder zs → i < length zs → r ≡ get_or zs i r
+past : (zs : List RecordValue) (name : List (List ℕ)) (i : ℕ) (r : RecordValue) → OwnersAreInOrder zs → i < length zs → r ≡ get_or zs i r
     → is_gt (labels_cmp r.owner name) ≡ true → (j : ℕ) (d : RecordValue) → i ≤ j → j < length zs → is_same (get_or zs j d).owner name ≡ false
 past zs name i r up h is gt j d above within =
     not_same_if_after (get_or zs j d).owner name (so_true _ (λ none. true≢false (sym (after_greater r.owner name gt) ∙ names_rank.chain name (get_or zs j d).owner r.owner none
@@ -151,7 +151,7 @@ one_more zs name p i r h is not none =
 either : (j i : ℕ) (P : Type 0) → (j < i → P) → (i ≤ j → P) → P
 either j i P a b = elim (cases_lt j i) [ inl l ↦ a l | inr g ↦ b g ]
 
-pub none_after : (zs : List RecordValue) (name : List (List ℕ)) (p : ℕ → Bool) (i : ℕ) (r : RecordValue) → AreInOrder zs → i < length zs → r ≡ get_or zs i r
+pub none_after : (zs : List RecordValue) (name : List (List ℕ)) (p : ℕ → Bool) (i : ℕ) (r : RecordValue) → OwnersAreInOrder zs → i < length zs → r ≡ get_or zs i r
     → is_gt (labels_cmp r.owner name) ≡ true → NonePass zs name p i → first_at zs name p ≡ None
 none_after zs name p i r up h is gt none =
     none_found zs name p (λ j below d. either j i (passes zs name p j d ≡ false) (λ l. none j l d)

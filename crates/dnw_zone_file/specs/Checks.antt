@@ -14,7 +14,7 @@ use Rattle.dnw_name_order.specs.Order.{labels_cmp}
 use Rattle.dnw_name_read.specs.Reading.{TakesName}
 use Rattle.dnw_record.specs.RecordFields.{record_fields}
 use Rattle.dnw_record.specs.Records.{RecordValue, data_octets}
-use Rattle.dnw_zone_file.specs.Findings.{finding, if_so, lacking, listed, with_other}
+use Rattle.dnw_zone_file.specs.Findings.{finding, if_so, apex_lack, listed, with_other}
 use Rattle.dnw_zone_file.specs.HostNames.{is_host_name}
 use Rattle.dnw_zone_file.specs.declared.checks.CheckError.{CheckError}
 use Rattle.dnw_zone_file.specs.declared.checks.CheckError.TheVariants.{NotInOrder, Memory}
@@ -24,8 +24,8 @@ use Rattle.dnw_zone_file.specs.declared.finding.Finding.{Finding}
 -- ---- the order of the records
 
 -- No owner is before that of the record before it (RFC 4034, section 6.1).
-unfoldable pub AreInOrder : List RecordValue → Type 0
-AreInOrder = IsSortedByKey (λ r. r.owner) labels_cmp
+unfoldable pub OwnersAreInOrder : List RecordValue → Type 0
+OwnersAreInOrder = IsSortedByKey (λ r. r.owner) labels_cmp
 
 -- The record of this number is the first whose owner is before that of the record before it.
 pub record IsOutOfOrder (records : List RecordValue) (number : ℕ) : Type 0 where
@@ -227,7 +227,7 @@ AreFindingsFrom zone records number (r ∷ left) found =
 -- what the apex lacks
 abbrev pub apex_findings : List (List ℕ) → List RecordValue → List Finding
 apex_findings zone records =
-    listed (lacking against.NoSoa (first_at records zone (has_type 6))) ++ listed (lacking against.NoNs (first_at records zone (has_type 2)))
+    listed (apex_lack against.NoSoa (first_at records zone (has_type 6))) ++ listed (apex_lack against.NoNs (first_at records zone (has_type 2)))
 
 -- These are the findings of a zone.
 abbrev pub AreFindings : List (List ℕ) → List RecordValue → List Finding → Type 0
@@ -236,4 +236,4 @@ AreFindings zone records found = (more : List Finding) × AreFindingsFrom zone r
 -- Why a zone is not checked: its records are not in order, or they are, and memory ran out.
 abbrev pub FailsCheck : List RecordValue → CheckError → Type 0
 FailsCheck records (NotInOrder number) = IsOutOfOrder records number
-FailsCheck records Memory = AreInOrder records
+FailsCheck records Memory = OwnersAreInOrder records

@@ -37,9 +37,9 @@ listed None = []
 listed (Some one) = one ∷ []
 
 -- what a zone has no record for
-abbrev pub lacking : Check → Option ℕ → Option Finding
-lacking check None = Some (record { check = check; number = None; other = None })
-lacking check (Some number) = None
+abbrev pub apex_lack : Check → Option ℕ → Option Finding
+apex_lack check None = Some (record { check = check; number = None; other = None })
+apex_lack check (Some number) = None
 
 -- of a record, if it holds
 abbrev pub if_so : Check → ℕ → Bool → Option Finding

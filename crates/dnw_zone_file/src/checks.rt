@@ -1,9 +1,9 @@
 //! Checks of zones, by the list of their records.
 ghost use Rattle.std.specs.Prelude.{◌≡◌, ◌++◌, List, IfOk, IfErr, OnOk};
-ghost use Rattle.dnw_zone_file.specs.Checks.{AreFindings, AreInOrder, FailsCheck, IsRecordFindings};
+ghost use Rattle.dnw_zone_file.specs.Checks.{AreFindings, OwnersAreInOrder, FailsCheck, IsRecordFindings};
 ghost use Rattle.dnw_zone_file.specs.declared.finding.Finding.{Finding};
 
-use crate::finding::{Check, Finding, add, if_so, lacking};
+use crate::finding::{Check, Finding, add, apex_lack, if_so};
 use crate::lookup::{Sought, first_at, is_in, out_of_order};
 use crate::own_checks::{NS, SOA, check_owner};
 use crate::servers::check_server;
@@ -27,12 +27,6 @@ pub enum CheckError {
     Memory,
 }
 
-impl From<AllocError> for CheckError {
-    fn from(_: AllocError) -> Self {
-        CheckError::Memory
-    }
-}
-
 /// Returns what a zone is found to have that the standards forbid or advise against, by the list of its records, which are in
 /// canonical order of their owners (RFC 4034, section 6.1): first what its apex lacks, and then what is found of each record, in the
 /// order of `Check`. Of a record whose owner is not in the zone nothing else is said.
@@ -46,7 +40,7 @@ pub fn check_zone(
     zone: &Name,
     records: &[RecordRef<'_>],
 ) -> Result<Vec<Finding>, CheckError>
-    ensures order { IfOk result (λ found. AreInOrder records.now) }
+    ensures order { IfOk result (λ found. OwnersAreInOrder records.now) }
     ensures ok { IfOk result (λ found. AreFindings zone.now.labels records.now found.items) }
     ensures err { IfErr result (FailsCheck records.now) }
 {
@@ -65,20 +59,20 @@ fn findings(
     zone: &Name,
     records: &[RecordRef<'_>],
 ) -> Result<Vec<Finding>, AllocError>
-    requires { AreInOrder records.now }
+    requires { OwnersAreInOrder records.now }
     ensures { IfOk result (λ found. AreFindings zone.now.labels records.now found.items) }
 {
     let mut found = Vec::new(alloc);
     add(
         &mut found,
-        lacking(
+        apex_lack(
             Check::NoSoa,
             first_at(records, &zone.wire_labels(), Sought::Type(SOA)),
         ),
     )?;
     add(
         &mut found,
-        lacking(
+        apex_lack(
             Check::NoNs,
             first_at(records, &zone.wire_labels(), Sought::Type(NS)),
         ),
@@ -100,7 +94,7 @@ fn check_record(
     record: &RecordRef<'_>,
     found: &mut Vec<Finding>,
 ) -> Result<(), AllocError>
-    requires { AreInOrder records.now }
+    requires { OwnersAreInOrder records.now }
     ensures { OnOk result ((own : List Finding) × IsRecordFindings zone.now.labels records.now number record.now own × (found.new.items ≡ found.old.items ++ own)) }
 {
     let mut room = [0; MAX_NAME];

@@ -1,6 +1,6 @@
 //! What zones are found to have that the standards forbid or advise against.
 ghost use Rattle.std.specs.Prelude.{◌≡◌, ◌++◌, OnOk};
-ghost use Rattle.dnw_zone_file.specs.Findings.{check_number, if_so, is_error, lacking, listed, with_other};
+ghost use Rattle.dnw_zone_file.specs.Findings.{check_number, if_so, is_error, apex_lack, listed, with_other};
 
 use std::alloc::AllocError;
 use thiserror::Error;
@@ -108,8 +108,8 @@ pub(crate) fn add(found: &mut Vec<Finding>, one: Option<Finding>) -> Result<(), 
 }
 
 /// Returns that a zone lacks a record at its apex, if there is none.
-pub(crate) fn lacking(check: Check, first: Option<usize>) -> Option<Finding>
-    ensures { result ≡ lacking check first }
+pub(crate) fn apex_lack(check: Check, first: Option<usize>) -> Option<Finding>
+    ensures { result ≡ apex_lack check first }
 {
     match first {
         Some(_) => None,

@@ -5,7 +5,7 @@ ghost use Rattle.dnw_base.specs.Limits.{max_name};
 ghost use Rattle.dnw_base.specs.RecordTypes.{type_code};
 ghost use Rattle.dnw_name_order.specs.Order.{labels_cmp};
 ghost use Rattle.dnw_record.specs.Records.{RecordValue};
-ghost use Rattle.dnw_zone_file.specs.Checks.{AreInOrder, IsOutOfOrder, first_at, first_upward, is_address, is_beside_alias, is_in, is_same, upward};
+ghost use Rattle.dnw_zone_file.specs.Checks.{OwnersAreInOrder, IsOutOfOrder, first_at, first_upward, is_address, is_beside_alias, is_in, is_same, upward};
 ghost use Rattle.dnw_zone_file.specs.Inside.Seeking.{is_sought};
 
 use dnw_base::limits::MAX_NAME;
@@ -32,7 +32,7 @@ pub(crate) fn first_at(
     name: &WireLabels<'_>,
     sought: Sought,
 ) -> Option<usize>
-    requires { AreInOrder records.now }
+    requires { OwnersAreInOrder records.now }
     ensures first { result ≡ first_at records.now name.now (is_sought sought) }
     ensures within { IfSome result (λ k. k < length records.now) }
 {
@@ -51,7 +51,7 @@ pub(crate) fn first_at(
 
 /// Returns the number of the first record whose owner is not before a name, or the number of all records.
 fn first_not_before(records: &[RecordRef<'_>], name: &WireLabels<'_>) -> usize
-    requires { AreInOrder records.now }
+    requires { OwnersAreInOrder records.now }
     ensures within { result ≤ length records.now }
     ensures before { (k : ℕ) (d : RecordValue) → k < result → is_lt (labels_cmp (slice_index_or records.now k d).owner name.now) ≡ true }
     ensures others { (k : ℕ) (d : RecordValue) → result ≤ k → k < length records.now → is_lt (labels_cmp (slice_index_or records.now k d).owner name.now) ≡ false }
@@ -105,9 +105,9 @@ fn is_beside_alias(code: u16) -> bool
 }
 
 /// Returns the number of the first record whose owner is before that of the record before it.
-#[tactic(auto, unfolding(crate::specs::Checks::AreInOrder))]
+#[tactic(auto, unfolding(crate::specs::Checks::OwnersAreInOrder))]
 pub(crate) fn out_of_order(records: &[RecordRef<'_>]) -> Option<usize>
-    ensures none { IfNone result (AreInOrder records.now) }
+    ensures none { IfNone result (OwnersAreInOrder records.now) }
     ensures some { IfSome result (IsOutOfOrder records.now) }
 {
     'records: for i in 1..records.len() {
@@ -160,7 +160,7 @@ pub(crate) fn first_upward(
     least: usize,
     sought: Sought,
 ) -> Option<usize>
-    requires { AreInOrder records.now }
+    requires { OwnersAreInOrder records.now }
     ensures { result ≡ first_upward records.now (upward least name.entry) (is_sought sought) }
 {
     'names: while name.len() >= least {

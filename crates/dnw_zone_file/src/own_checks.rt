@@ -3,7 +3,7 @@ ghost use Rattle.std.specs.Prelude.{◌≡◌, ◌<◌, ◌++◌, ℕ, length, I
 ghost use Rattle.dnw_base.specs.DnsClasses.{class_code};
 ghost use Rattle.dnw_base.specs.RecordTypes.{type_code};
 ghost use Rattle.dnw_zone_file.specs.Inside.Seeking.{is_sought};
-ghost use Rattle.dnw_zone_file.specs.Checks.{AreInOrder, above, first_upward, below_delegation, below_dname, cname_and_other, ds_elsewhere, first_of_set, has_class, has_type, has_host_owner, is_address, is_one_for_a_name, is_same, no_host_name, other_class, other_ttl, own_findings, set_findings, kind_findings, place_findings, soa_elsewhere, two_of_one};
+ghost use Rattle.dnw_zone_file.specs.Checks.{OwnersAreInOrder, above, first_upward, below_delegation, below_dname, cname_and_other, ds_elsewhere, first_of_set, has_class, has_type, has_host_owner, is_address, is_one_for_a_name, is_same, no_host_name, other_class, other_ttl, own_findings, set_findings, kind_findings, place_findings, soa_elsewhere, two_of_one};
 
 use crate::finding::{Check, Finding, add, if_so, with_other};
 use crate::host::is_host_name;
@@ -42,7 +42,7 @@ pub(crate) fn check_owner(
     owner: &WireLabels<'_>,
     found: &mut Vec<Finding>,
 ) -> Result<(), AllocError>
-    requires order { AreInOrder records.now }
+    requires order { OwnersAreInOrder records.now }
     requires owner { owner.now ≡ record.now.owner }
     ensures { OnOk result (found.new.items ≡ found.old.items ++ own_findings zone.now.labels records.now number record.now) }
 {
@@ -62,7 +62,7 @@ fn check_set(
     owner: &WireLabels<'_>,
     found: &mut Vec<Finding>,
 ) -> Result<(), AllocError>
-    requires order { AreInOrder records.now }
+    requires order { OwnersAreInOrder records.now }
     requires owner { owner.now ≡ record.now.owner }
     ensures { OnOk result (found.new.items ≡ found.old.items ++ set_findings records.now number record.now) }
 {
@@ -84,7 +84,7 @@ fn check_kind(
     owner: &WireLabels<'_>,
     found: &mut Vec<Finding>,
 ) -> Result<(), AllocError>
-    requires { AreInOrder records.now }
+    requires { OwnersAreInOrder records.now }
     ensures { OnOk result (found.new.items ≡ found.old.items ++ kind_findings zone.now.labels records.now number code owner.now) }
 {
     add(found, soa_elsewhere(zone, number, code, owner))?;
@@ -103,7 +103,7 @@ fn check_place(
     owner: &WireLabels<'_>,
     found: &mut Vec<Finding>,
 ) -> Result<(), AllocError>
-    requires { AreInOrder records.now }
+    requires { OwnersAreInOrder records.now }
     ensures { OnOk result (found.new.items ≡ found.old.items ++ place_findings zone.now.labels records.now number code owner.now) }
 {
     add(found, below_dname(zone, records, number, code, owner))?;
@@ -190,7 +190,7 @@ fn cname_and_other(
     code: u16,
     owner: &WireLabels<'_>,
 ) -> Option<Finding>
-    requires { AreInOrder records.now }
+    requires { OwnersAreInOrder records.now }
     ensures { result ≡ cname_and_other records.now number code owner.now }
 {
     if code != CNAME {
@@ -211,7 +211,7 @@ fn ds_elsewhere(
     code: u16,
     owner: &WireLabels<'_>,
 ) -> Option<Finding>
-    requires { AreInOrder records.now }
+    requires { OwnersAreInOrder records.now }
     ensures { result ≡ ds_elsewhere zone.now.labels records.now number code owner.now }
 {
     if code != DS {
@@ -230,7 +230,7 @@ fn below_dname(
     code: u16,
     owner: &WireLabels<'_>,
 ) -> Option<Finding>
-    requires { AreInOrder records.now }
+    requires { OwnersAreInOrder records.now }
     ensures { result ≡ below_dname zone.now.labels records.now number code owner.now }
 {
     if code == RRSIG || code == NSEC3 {
@@ -252,7 +252,7 @@ fn below_delegation(
     code: u16,
     owner: &WireLabels<'_>,
 ) -> Option<Finding>
-    requires { AreInOrder records.now }
+    requires { OwnersAreInOrder records.now }
     ensures { result ≡ below_delegation zone.now.labels records.now number code owner.now }
 {
     if is_address(code) {
@@ -274,7 +274,7 @@ fn first_above(
     least: usize,
     sought: Sought,
 ) -> Option<usize>
-    requires { AreInOrder records.now }
+    requires { OwnersAreInOrder records.now }
     ensures { result ≡ first_upward records.now (above least owner.now) (is_sought sought) }
 {
     let mut rest = owner.clone();

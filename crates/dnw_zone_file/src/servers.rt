@@ -1,7 +1,7 @@
 //! What is found of a record whose data have the name of a server.
 ghost use Rattle.std.specs.Prelude.{◌≡◌, ◌++◌, ℕ, List, IfErr, IfOk, OnOk};
 ghost use Rattle.dnw_base.specs.RecordTypes.{type_code};
-ghost use Rattle.dnw_zone_file.specs.Checks.{AreInOrder, AreOfServer, IsNameAfter, has_address, has_wildcard, is_delegated, server_findings, server_offset, upward};
+ghost use Rattle.dnw_zone_file.specs.Checks.{OwnersAreInOrder, AreOfServer, IsNameAfter, has_address, has_wildcard, is_delegated, server_findings, server_offset, upward};
 ghost use Rattle.dnw_zone_file.specs.declared.finding.Finding.{Finding};
 
 use crate::finding::{Check, Finding, add, if_so, with_other};
@@ -26,7 +26,7 @@ pub(crate) fn check_server(
     record: &RecordRef<'_>,
     found: &mut Vec<Finding>,
 ) -> Result<(), AllocError>
-    requires { AreInOrder records.now }
+    requires { OwnersAreInOrder records.now }
     ensures { OnOk result ((own : List Finding) × AreOfServer zone.now.labels records.now number record.now own × (found.new.items ≡ found.old.items ++ own)) }
 {
     let code = u16::from(record.record_type());
@@ -80,7 +80,7 @@ fn check_name(
     name: &WireLabels<'_>,
     found: &mut Vec<Finding>,
 ) -> Result<(), AllocError>
-    requires { AreInOrder records.now }
+    requires { OwnersAreInOrder records.now }
     ensures { OnOk result (found.new.items ≡ found.old.items ++ server_findings zone.now.labels records.now number code name.now) }
 {
     if name.len() == 0 || !is_in(zone, name) {
@@ -97,7 +97,7 @@ fn check_name(
 
 /// Returns `true` if a name is that of a delegation or below one.
 fn is_delegated(zone: &Name, records: &[RecordRef<'_>], name: &WireLabels<'_>) -> bool
-    requires { AreInOrder records.now }
+    requires { OwnersAreInOrder records.now }
     ensures { result ≡ is_delegated zone.now.labels records.now name.now }
 {
     let least = label_count(zone) + 1;
@@ -106,7 +106,7 @@ fn is_delegated(zone: &Name, records: &[RecordRef<'_>], name: &WireLabels<'_>) -
 
 /// Returns `true` if a name has an address, or the wildcard beside it does.
 fn has_address(alloc: Global, records: &[RecordRef<'_>], name: &WireLabels<'_>) -> bool
-    requires { AreInOrder records.now }
+    requires { OwnersAreInOrder records.now }
     ensures { result ≡ has_address records.now name.now }
 {
     first_at(records, name, Sought::Address).is_some() || has_wildcard(alloc, records, name)
@@ -114,7 +114,7 @@ fn has_address(alloc: Global, records: &[RecordRef<'_>], name: &WireLabels<'_>) 
 
 /// Returns `true` if the wildcard beside a name has an address.
 fn has_wildcard(alloc: Global, records: &[RecordRef<'_>], name: &WireLabels<'_>) -> bool
-    requires { AreInOrder records.now }
+    requires { OwnersAreInOrder records.now }
     ensures { result ≡ has_wildcard records.now name.now }
 {
     match WireForm::from_octets(alloc, name.as_wire()).to_wildcard() {

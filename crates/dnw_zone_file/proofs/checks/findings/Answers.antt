@@ -8,9 +8,9 @@ pub records-init : goal.records-init
 records-init c =
     record {
       number = refl;
-      rest = begins c.args.zone.now.labels c.args.records.now c.lacking.result c.lacking-2.result c.add.new.found.items c.add-2.new.found.items
+      rest = begins c.args.zone.now.labels c.args.records.now c.apex_lack.result c.apex_lack-2.result c.add.new.found.items c.add-2.new.found.items
           (search (rules, c.in_ok-add.ensures, c.new-found.ensures.items)) c.in_ok-add-2.ensures
-          (rw (c.lacking.ensures, c.lacking-2.ensures, c.first_at.ensures.first, c.first_at-2.ensures.first, c.wire_labels.ensures.labels, c.wire_labels-2.ensures.labels) refl);
+          (rw (c.apex_lack.ensures, c.apex_lack-2.ensures, c.first_at.ensures.first, c.first_at-2.ensures.first, c.wire_labels.ensures.labels, c.wire_labels-2.ensures.labels) refl);
     }
 
 pub records-preserved : goal.records-preserved
