@@ -26,3 +26,4 @@ pub mod Wires
 pub mod Lengths
 pub mod Pushed
 pub mod NamesRead
+pub mod WordParts

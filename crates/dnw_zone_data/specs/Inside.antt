@@ -5,3 +5,4 @@ pub mod Steps
 pub mod Reads
 pub mod StringWords
 pub mod Wires
+pub mod WordParts

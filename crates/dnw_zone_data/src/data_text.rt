@@ -1,5 +1,5 @@
 //! The text of the data of records.
-ghost use Rattle.std.specs.Prelude.{◌≡◌, ◌≤◌, ◌⊎◌, ◌++◌, ℕ, List, [], length, flat_map, true, false, IfOk, MatchBool, MatchOption, MatchResult, string_bytes};
+ghost use Rattle.std.specs.Prelude.{◌≡◌, ◌≢◌, ◌≤◌, ◌⊎◌, ◌++◌, ℕ, List, [], length, flat_map, true, false, IfOk, IfSome, MatchBool, MatchOption, MatchResult, string_bytes};
 ghost use Rattle.std.specs.List.{list_all};
 ghost use Rattle.std.specs.Option.{option_copied};
 ghost use Rattle.dnw_base.specs.DnsClasses.{class_code};
@@ -11,7 +11,8 @@ ghost use Rattle.dnw_record.specs.RecordFields.{record_fields};
 ghost use Rattle.dnw_zone_data.specs.declared.error.DataTextError.TheVariants.{Memory};
 ghost use Rattle.dnw_zone_data.specs.Parsing.{AreFieldTexts, FailsFields};
 ghost use Rattle.dnw_data.specs.FieldWires.{field_wire};
-ghost use Rattle.dnw_zone_data.specs.Generic.{IsSized};
+ghost use Rattle.dnw_zone_data.specs.Generic.{generic_mark, IsSized};
+ghost use Rattle.dnw_zone_data.specs.Words.{after_word, word};
 ghost use Rattle.dnw_zone_data.specs.NumberForms.{number_forms};
 ghost use Rattle.dnw_zone_data.specs.DataTexts.{has_fields, has_own_form, has_field_text, is_blank, is_little_known, is_octets, is_unprinted, stand_in};
 ghost use Rattle.dnw_zone_data.specs.DataTexts.{without_space, ArePlain, IsPlainData, IsDataText, IsOwnText, IsTextOf, FailsGeneric, FailsText, LacksText};
@@ -152,8 +153,7 @@ pub fn append_in_line(
         (FailsText (option_copied origin.entry) (number_forms (type_code record_type)) (fields_of (class_code class) (type_code record_type)) len text.now) }
 {
     let start = after_spaces(text);
-    let (word, rest) = split_word(start);
-    if word == MARK {
+    if let Some(rest) = after_mark(start) {
         return append_generic(alloc, class, record_type, rest, len, out);
     }
     let kinds = fields_of(class, record_type, stand_in(start));
@@ -173,6 +173,20 @@ pub fn append_in_line(
         origin,
         out,
     )
+}
+
+/// Returns what is after the mark of the form that any data have, if a text begins with it. Of most texts it looks at one octet.
+fn after_mark(text: &[u8]) -> Option<&[u8]>
+    ensures is { MatchOption result (word text.now ≢ generic_mark) (λ rest. (word text.now ≡ generic_mark) × (rest.now ≡ after_word text.now)) }
+    ensures within { IfSome result (λ rest. length rest.now ≤ length text.now) }
+{
+    match text.first() {
+        Some(b'\\') => {
+            let (word, rest) = split_word(text);
+            if word == MARK { Some(rest) } else { None }
+        }
+        _ => None,
+    }
 }
 
 /// Returns octets in place of those that a text in the type's own form is, which begins here.

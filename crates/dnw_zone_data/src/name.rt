@@ -1,5 +1,5 @@
 //! Names (RFC 1035, section 5.1).
-ghost use Rattle.std.specs.Prelude.{◌≡◌, ◌++◌, IfOk, string_bytes};
+ghost use Rattle.std.specs.Prelude.{◌≡◌, ◌++◌, [], Some, None, IfOk, MatchBool, string_bytes};
 ghost use Rattle.std.specs.Option.{option_copied};
 ghost use Rattle.dnw_name_text.specs.NameTexts.{full_name_text};
 ghost use Rattle.dnw_zone_data.specs.NameReading.{AppendsName, named_at};
@@ -11,7 +11,7 @@ use dnw_name::name::Name;
 use dnw_name::name_ref::NameRef;
 use dnw_name_form::form::WireForm;
 use dnw_name_text::printing::{MAX_TEXT, push_name};
-use dnw_name_text::reading::{read, read_into};
+use dnw_name_text::reading::read_into;
 use std::alloc::{AllocError, Global};
 
 /// Appends the text of a name, fully qualified.
@@ -28,22 +28,16 @@ pub fn write_name(name: &NameRef<'_>, out: &mut String) -> Result<(), AllocError
 pub fn read_name(alloc: Global, text: &[u8], origin: Option<&Name>) -> Option<WireForm>
     ensures { result ≡ named_at (option_copied origin.entry) text.now }
 {
-    if begins_with_quote(text) {
-        return None;
-    }
-    let labels = match origin {
-        Some(name) => Some(name.wire_labels()),
-        None => None,
-    };
-    match read(alloc, text, labels) {
-        Ok(name) if name.is_fqdn => Some(name.form),
-        _ => None,
+    let mut form = WireForm::new(alloc);
+    if fill_name(&mut form, text, origin) {
+        Some(form)
+    } else {
+        None
     }
 }
 
 /// Appends the wire form of the name that a word gives, as `read_name` returns it. Returns `false` if it gives none; nothing is
 /// changed then.
-#[tactic(auto, using(crate::proofs::NamesRead::is_named, crate::proofs::NamesRead::is_relative, crate::proofs::NamesRead::is_none))]
 pub fn append_name(
     alloc: Global,
     text: &[u8],
@@ -52,19 +46,26 @@ pub fn append_name(
 ) -> Result<bool, AllocError>
     ensures { IfOk result (AppendsName (named_at (option_copied origin.entry) text.now) out.old.items out.new.items) }
 {
-    if begins_with_quote(text) {
+    let mut form = WireForm::new(alloc);
+    if !fill_name(&mut form, text, origin) {
         return Ok(false);
+    }
+    out.extend_from_slice(form.as_bytes())?;
+    Ok(true)
+}
+
+/// Reads the name that a word gives into a form without labels. Returns `false` if it gives none.
+#[tactic(auto, using(crate::proofs::NamesRead::is_named, crate::proofs::NamesRead::is_relative, crate::proofs::NamesRead::is_none))]
+fn fill_name(form: &mut WireForm, text: &[u8], origin: Option<&Name>) -> bool
+    requires { form.old ≡ [] }
+    ensures { MatchBool result (named_at (option_copied origin.entry) text.now ≡ Some form.new) (named_at (option_copied origin.entry) text.now ≡ None) }
+{
+    if begins_with_quote(text) {
+        return false;
     }
     let labels = match origin {
         Some(name) => Some(name.wire_labels()),
         None => None,
     };
-    let mut form = WireForm::new(alloc);
-    match read_into(&mut form, text, labels) {
-        Ok(true) => {
-            out.extend_from_slice(form.as_bytes())?;
-            Ok(true)
-        }
-        _ => Ok(false),
-    }
+    matches!(read_into(form, text, labels), Ok(true))
 }

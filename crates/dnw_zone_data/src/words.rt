@@ -1,10 +1,31 @@
 //! How a text is split into words.
-ghost use Rattle.std.specs.Prelude.{◌≡◌, ◌≤◌, ◌+◌, ◌==◌, ◌&&◌, not, length, false, IfOk};
+ghost use Rattle.std.specs.Prelude.{◌≡◌, ◌≤◌, ◌+◌, length, false, IfOk};
 ghost use Rattle.std.specs.List.{filter, list_all};
-ghost use Rattle.dnw_zone_values.specs.Strings.{quote};
-ghost use Rattle.dnw_zone_data.specs.Words.{after_param, after_spaces, after_word, begins_with_quote, is_asterisk, is_word_end, escaped_after, is_no_space, is_space, param_len, param_word, plain_len, quoted_len, word, word_len};
+ghost use Rattle.dnw_zone_data.specs.Inside.WordParts.{is_word_part};
+ghost use Rattle.dnw_zone_data.specs.Words.{after_param, after_spaces, after_word, begins_with_quote, is_asterisk, is_word_end, is_no_space, is_space, param_len, param_word, plain_len, quoted_len, word, word_len};
 
 use std::alloc::{AllocError, Global};
+
+// 1 for each character that is a part of a word outside of quotes and nothing more, and 0 for each other one.
+#[rattlefmt::skip]
+static WORD_PARTS: [u8; 256] = [
+    1, 1, 1, 1, 1, 1, 1, 1, 1, 0, 0, 1, 1, 0, 1, 1,
+    1, 1, 1, 1, 1, 1, 1, 1, 1, 1, 1, 1, 1, 1, 1, 1,
+    0, 1, 0, 1, 1, 1, 1, 1, 0, 0, 1, 1, 1, 1, 1, 1,
+    1, 1, 1, 1, 1, 1, 1, 1, 1, 1, 1, 0, 1, 1, 1, 1,
+    1, 1, 1, 1, 1, 1, 1, 1, 1, 1, 1, 1, 1, 1, 1, 1,
+    1, 1, 1, 1, 1, 1, 1, 1, 1, 1, 1, 1, 0, 1, 1, 1,
+    1, 1, 1, 1, 1, 1, 1, 1, 1, 1, 1, 1, 1, 1, 1, 1,
+    1, 1, 1, 1, 1, 1, 1, 1, 1, 1, 1, 1, 1, 1, 1, 1,
+    1, 1, 1, 1, 1, 1, 1, 1, 1, 1, 1, 1, 1, 1, 1, 1,
+    1, 1, 1, 1, 1, 1, 1, 1, 1, 1, 1, 1, 1, 1, 1, 1,
+    1, 1, 1, 1, 1, 1, 1, 1, 1, 1, 1, 1, 1, 1, 1, 1,
+    1, 1, 1, 1, 1, 1, 1, 1, 1, 1, 1, 1, 1, 1, 1, 1,
+    1, 1, 1, 1, 1, 1, 1, 1, 1, 1, 1, 1, 1, 1, 1, 1,
+    1, 1, 1, 1, 1, 1, 1, 1, 1, 1, 1, 1, 1, 1, 1, 1,
+    1, 1, 1, 1, 1, 1, 1, 1, 1, 1, 1, 1, 1, 1, 1, 1,
+    1, 1, 1, 1, 1, 1, 1, 1, 1, 1, 1, 1, 1, 1, 1, 1,
+];
 
 /// Returns `true` if a character is white space: a space, a tab, or the end of a line.
 fn is_space(c: u8) -> bool
@@ -72,14 +93,19 @@ fn quoted_len(text: &[u8]) -> usize
     ensures is { result ≡ quoted_len false text.now }
     ensures within { result ≤ length text.now }
 {
-    let mut escaped = false;
     let mut left = text;
     while let Some((first, rest)) = left.split_first() {
-        if is_end_quote(escaped, *first) {
+        if *first == b'"' {
             return text.len() - rest.len();
         }
-        escaped = escaped_after(escaped, *first);
-        left = rest;
+        if *first == b'\\' {
+            let Some((_, others)) = rest.split_first() else {
+                return text.len();
+            };
+            left = others;
+        } else {
+            left = rest;
+        }
     }
     text.len()
 }
@@ -91,19 +117,26 @@ fn plain_len(text: &[u8]) -> usize
 {
     let mut left = text;
     while let Some((first, rest)) = left.split_first() {
-        if is_word_end(*first) {
-            return text.len() - left.len();
-        }
-        if *first == b'\\' {
+        if is_word_part(*first) {
+            left = rest;
+        } else if *first == b'\\' {
             let Some((_, after)) = rest.split_first() else {
                 return text.len();
             };
             left = after;
         } else {
-            left = rest;
+            return text.len() - left.len();
         }
     }
     text.len()
+}
+
+/// Returns `true` if a character outside of quotes is a part of a word and nothing more. A table takes one comparison.
+#[inline(always)]
+fn is_word_part(c: u8) -> bool
+    ensures { result ≡ is_word_part c }
+{
+    WORD_PARTS[c as usize] == 1
 }
 
 /// Returns the length of the service parameter that a text begins with.
@@ -129,20 +162,6 @@ fn is_word_end(c: u8) -> bool
     ensures { result ≡ is_word_end c }
 {
     is_space(c) || c == b'"' || c == b'(' || c == b')' || c == b';'
-}
-
-/// Returns `true` if a character, after a backslash or not, is the quote at the end of a word.
-fn is_end_quote(escaped: bool, c: u8) -> bool
-    ensures { result ≡ (not escaped && (c == quote)) }
-{
-    !escaped && c == b'"'
-}
-
-/// Returns `true` if the next character is after a backslash.
-fn escaped_after(escaped: bool, c: u8) -> bool
-    ensures { result ≡ escaped_after escaped c }
-{
-    !escaped && c == b'\\'
 }
 
 /// Returns `true` if a word is `*`, which asks for all types or classes, and is none.

@@ -16,21 +16,20 @@ pub fn place_of(text: &[u8], offset: usize) -> TextPlace
     ensures { result ≡ place_from (record { line = 0; column = 0 }) (take offset text.now) }
 {
     let front = front_of(text, offset);
-    let mut place = TextPlace { line: 0, column: 0 };
-    for c in front {
+    let mut line = 0;
+    let mut begins = front;
+    let mut left = front;
+    while let Some((c, rest)) = left.split_first() {
         if *c == b'\n' {
-            place = TextPlace {
-                line: place.line + 1,
-                column: 0,
-            };
-        } else {
-            place = TextPlace {
-                line: place.line,
-                column: place.column + 1,
-            };
+            line += 1;
+            begins = rest;
         }
+        left = rest;
     }
-    place
+    TextPlace {
+        line,
+        column: begins.len(),
+    }
 }
 
 /// Returns the octets before an offset.

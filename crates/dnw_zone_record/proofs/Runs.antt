@@ -71,7 +71,7 @@ plain_step place next text so others rest c whole is e octet = (
 pub plain_ended : (place : Place) (text so others rest front : List ℕ) (c : ℕ) (octet : Octet) (ending : Ending) → so ++ others ≡ text
     → line_from so place false others ≡ line_of text → others ≡ c ∷ rest → on_octet place false c ≡ octet
     → (added_octet octet c (λ o next. line_from (so ++ o ∷ []) next false rest) (λ next within. line_from (so ++ 32 ∷ []) next within rest)
-        (λ why. (so, why)) ≡ (so, ending))
+    (λ why. (so, why)) ≡ (so, ending))
     → front ≡ take (length text - length others) text → line_of text ≡ (front, ending)
 plain_ended place text so others rest front c octet ending whole is e on ends at =
     let here : line_from so place false others ≡ (so, ending) = rw (e, on) ends in

@@ -6,6 +6,27 @@ ghost use Rattle.dnw_zone_record.specs.Lines.{end_at, is_kept, is_plain_octet, i
 use crate::word_error::WordRule;
 use std::alloc::AllocError;
 
+// 1 for each octet that is a part of a word or white space outside of quotes, escapes and comments, and 0 for each other one.
+#[rattlefmt::skip]
+static PLAIN: [u8; 256] = [
+    1, 1, 1, 1, 1, 1, 1, 1, 1, 1, 0, 1, 1, 0, 1, 1,
+    1, 1, 1, 1, 1, 1, 1, 1, 1, 1, 1, 1, 1, 1, 1, 1,
+    1, 1, 0, 1, 1, 1, 1, 1, 0, 0, 1, 1, 1, 1, 1, 1,
+    1, 1, 1, 1, 1, 1, 1, 1, 1, 1, 1, 0, 1, 1, 1, 1,
+    1, 1, 1, 1, 1, 1, 1, 1, 1, 1, 1, 1, 1, 1, 1, 1,
+    1, 1, 1, 1, 1, 1, 1, 1, 1, 1, 1, 1, 0, 1, 1, 1,
+    1, 1, 1, 1, 1, 1, 1, 1, 1, 1, 1, 1, 1, 1, 1, 1,
+    1, 1, 1, 1, 1, 1, 1, 1, 1, 1, 1, 1, 1, 1, 1, 1,
+    1, 1, 1, 1, 1, 1, 1, 1, 1, 1, 1, 1, 1, 1, 1, 1,
+    1, 1, 1, 1, 1, 1, 1, 1, 1, 1, 1, 1, 1, 1, 1, 1,
+    1, 1, 1, 1, 1, 1, 1, 1, 1, 1, 1, 1, 1, 1, 1, 1,
+    1, 1, 1, 1, 1, 1, 1, 1, 1, 1, 1, 1, 1, 1, 1, 1,
+    1, 1, 1, 1, 1, 1, 1, 1, 1, 1, 1, 1, 1, 1, 1, 1,
+    1, 1, 1, 1, 1, 1, 1, 1, 1, 1, 1, 1, 1, 1, 1, 1,
+    1, 1, 1, 1, 1, 1, 1, 1, 1, 1, 1, 1, 1, 1, 1, 1,
+    1, 1, 1, 1, 1, 1, 1, 1, 1, 1, 1, 1, 1, 1, 1, 1,
+];
+
 /// Where an octet of an entry is.
 #[derive(Clone, Copy)]
 pub enum Place {
@@ -195,11 +216,13 @@ fn octet_of(place: Place, grouped: bool, c: u8) -> Octet
     }
 }
 
-/// Returns `true` if an octet outside of quotes, escapes and comments is a part of a word or white space, and nothing more.
+/// Returns `true` if an octet outside of quotes, escapes and comments is a part of a word or white space, and nothing more. A table
+/// takes one comparison.
+#[inline(always)]
 fn is_plain_octet(c: u8) -> bool
     ensures { result ≡ is_plain_octet c }
 {
-    !matches!(c, b'\n' | b'\r' | b'"' | b'(' | b')' | b';' | b'\\')
+    PLAIN[c as usize] == 1
 }
 
 /// Returns what an octet that is not plain is outside of quotes, escapes and comments.

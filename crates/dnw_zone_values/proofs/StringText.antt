@@ -6,7 +6,7 @@ use Rattle.std.specs.Char.{is_ascii_digit}
 use Rattle.std.proofs.lemmas.Bool.{cases_eq, cases_Bool, ne_eqb, lt-ltb}
 use Rattle.dnw_zone_values.specs.Octets.{IsOctets}
 use Rattle.dnw_zone_values.specs.Spelling.{ComesBack}
-use Rattle.dnw_zone_values.specs.Inside.Takes.{after, is_special, octets_at, plain_len, IsNoText, Pushes}
+use Rattle.dnw_zone_values.specs.Inside.Takes.{after, is_string_mark, octets_at, string_run_len, IsNoText, Pushes}
 
 -- one octet more
 pub after_more : (found : List ℕ) (o : ℕ) (octets : Option (List ℕ)) → after found (with_octet o octets) ≡ after (found ++ o ∷ []) octets
@@ -23,19 +23,19 @@ after_both found run (Some own) = ap Some (sym (append_assoc found run own))
 
 -- one octet that stands for itself
 plain_more : (quoted : Bool) (c : ℕ) (cs : List ℕ) → (c ≡ quote) ⊎ (c ≢ quote) → (c ≡ backslash) ⊎ (c ≢ backslash)
-    → octets_from quoted Plain cs ≡ after (take (plain_len cs) cs) (octets_from quoted Plain (drop (plain_len cs) cs))
+    → octets_from quoted Plain cs ≡ after (take (string_run_len cs) cs) (octets_from quoted Plain (drop (string_run_len cs) cs))
     → octets_from quoted Plain (c ∷ cs)
-    ≡ after (take (plain_len (c ∷ cs)) (c ∷ cs)) (octets_from quoted Plain (drop (plain_len (c ∷ cs)) (c ∷ cs)))
+    ≡ after (take (string_run_len (c ∷ cs)) (c ∷ cs)) (octets_from quoted Plain (drop (string_run_len (c ∷ cs)) (c ∷ cs)))
 plain_more quoted c cs (inl e) other so = rw e (none_more (octets_from quoted Plain (quote ∷ cs)))
 plain_more quoted c cs (inr no_quote) (inl e) so = rw e (none_more (octets_from quoted Plain (backslash ∷ cs)))
 plain_more true c cs (inr no_quote) (inr plain) so =
     let a = ne_eqb c quote no_quote in
     let b = ne_eqb c backslash plain in
-    rw (a, b) (ap (with_octet c) so ∙ after_both (c ∷ []) (take (plain_len cs) cs) (octets_from true Plain (drop (plain_len cs) cs)))
+    rw (a, b) (ap (with_octet c) so ∙ after_both (c ∷ []) (take (string_run_len cs) cs) (octets_from true Plain (drop (string_run_len cs) cs)))
 plain_more false c cs (inr no_quote) (inr plain) so =
     let a = ne_eqb c quote no_quote in
     let b = ne_eqb c backslash plain in
-    rw (a, b) (ap (with_octet c) so ∙ after_both (c ∷ []) (take (plain_len cs) cs) (octets_from false Plain (drop (plain_len cs) cs)))
+    rw (a, b) (ap (with_octet c) so ∙ after_both (c ∷ []) (take (string_run_len cs) cs) (octets_from false Plain (drop (string_run_len cs) cs)))
 
 -- more octets than there may be
 pub too_long : (found : List ℕ) (octets : Option (List ℕ)) (max : ℕ) → max < length found → IsNoText max (after found octets)
@@ -49,18 +49,18 @@ too_many found o (Some own) max full = omega (arith, length-append found (o ∷ 
 
 -- octets that stand for themselves
 pub plain_run : (quoted : Bool) (text : List ℕ)
-    → octets_from quoted Plain text ≡ after (take (plain_len text) text) (octets_from quoted Plain (drop (plain_len text) text))
+    → octets_from quoted Plain text ≡ after (take (string_run_len text) text) (octets_from quoted Plain (drop (string_run_len text) text))
 plain_run quoted [] = none_more (octets_from quoted Plain [])
 plain_run quoted (c ∷ cs) = plain_more quoted c cs (cases_eq c quote) (cases_eq c backslash) (plain_run quoted cs)
 
 -- the text goes on with octets that stand for themselves
 pub with_run : (quoted : Bool) (text left others found run : List ℕ) (len : ℕ)
-    → octets_from quoted Plain text ≡ after found (octets_from quoted Plain left) → len ≡ plain_len left → run ≡ take len left
+    → octets_from quoted Plain text ≡ after found (octets_from quoted Plain left) → len ≡ string_run_len left → run ≡ take len left
     → others ≡ drop len left → octets_from quoted Plain text ≡ after (found ++ run) (octets_from quoted Plain others)
 with_run quoted text left others found run len so_far is front back =
     rw (front, back, is)
     (so_far ∙ ap (after found) (plain_run quoted left)
-    ∙ after_both found (take (plain_len left) left) (octets_from quoted Plain (drop (plain_len left) left)))
+    ∙ after_both found (take (string_run_len left) left) (octets_from quoted Plain (drop (string_run_len left) left)))
 
 -- it ends, in quotes or not
 pub ended_text : (quoted : Bool) (octets : Option (List ℕ)) (found old new : List ℕ) (max : ℕ)

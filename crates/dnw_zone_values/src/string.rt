@@ -4,7 +4,7 @@ ghost use Rattle.std.specs.Char.{is_ascii_digit};
 ghost use Rattle.std.specs.Fmt.{WritesOnOk};
 ghost use Rattle.dnw_zone_values.specs.Spelling.{Appends};
 ghost use Rattle.dnw_zone_values.specs.Strings.{quote, Plain, escape_text, octet_text, string_text, octets_from, with_octet, string_octets, IsTextWithin, IsStringText, IsLongText};
-ghost use Rattle.dnw_zone_values.specs.Inside.Takes.{octets_at, decimal_octet, is_special, plain_len, KeepsFront, Pushes};
+ghost use Rattle.dnw_zone_values.specs.Inside.Takes.{octets_at, decimal_octet, is_string_mark, string_run_len, KeepsFront, Pushes};
 ghost use Rattle.dnw_zone_values.specs.declared.error.FieldTextError.TheVariants.{CharacterString as StringWanted, Text as TextWanted};
 
 use crate::error::FieldTextError;
@@ -145,7 +145,7 @@ fn push_octets(
     let mut count = 0;
     let mut left = text;
     'runs: loop {
-        let (run, others) = left.split_at(plain_len(left));
+        let (run, others) = left.split_at(string_run_len(left));
         if run.len() > max - count {
             return Ok(false);
         }
@@ -170,13 +170,13 @@ fn push_octets(
 }
 
 /// Returns the number of octets before the first quote or backslash: they stand for themselves, in quotes or not.
-fn plain_len(text: &[u8]) -> usize
-    ensures is { result ≡ plain_len text.now }
+fn string_run_len(text: &[u8]) -> usize
+    ensures is { result ≡ string_run_len text.now }
     ensures within { result ≤ length text.now }
 {
     let mut left = text;
     while let Some((first, rest)) = left.split_first() {
-        if is_special(*first) {
+        if is_string_mark(*first) {
             return text.len() - left.len();
         }
         left = rest;
@@ -185,8 +185,8 @@ fn plain_len(text: &[u8]) -> usize
 }
 
 /// Returns `true` for a quote and a backslash.
-fn is_special(c: u8) -> bool
-    ensures { result ≡ is_special c }
+fn is_string_mark(c: u8) -> bool
+    ensures { result ≡ is_string_mark c }
 {
     c == b'"' || c == b'\\'
 }

@@ -16,13 +16,13 @@ decimal_octet a b c =
     else None
 
 -- an octet that may stand for something else than itself
-abbrev pub is_special : ℕ → Bool
-is_special c = c == quote || c == backslash
+abbrev pub is_string_mark : ℕ → Bool
+is_string_mark c = c == quote || c == backslash
 
 -- the number of octets before the first one of these
-abbrev pub plain_len : List ℕ → ℕ
-plain_len [] = 0
-plain_len (c ∷ cs) = if is_special c then 0 else suc (plain_len cs)
+abbrev pub string_run_len : List ℕ → ℕ
+string_run_len [] = 0
+string_run_len (c ∷ cs) = if is_string_mark c then 0 else suc (string_run_len cs)
 
 -- the octets that were found, and after them these
 abbrev pub after : List ℕ → Option (List ℕ) → Option (List ℕ)
