@@ -109,15 +109,18 @@ fn parts_said(option: &OptionData<'_>, size: usize) -> OptionParts
         OptionData::Expire(None)
         | OptionData::TcpKeepalive(None)
         | OptionData::Chain(None)
-        | OptionData::ZoneVersion(None) => OptionParts {
-            is_given: false,
-            ..only(0, 0)
-        },
-        OptionData::Nsid(_)
-        | OptionData::Padding(_)
-        | OptionData::Chain(Some(_))
-        | OptionData::ReportChannel(_)
-        | OptionData::Unknown { .. } => only(0, size),
+        | OptionData::ZoneVersion(None) => not_given(),
+        _ => only(0, size),
+    }
+}
+
+/// Returns the parts of an option that is empty.
+fn not_given() -> OptionParts
+    ensures { result ≡ not_given }
+{
+    OptionParts {
+        is_given: false,
+        ..only(0, 0)
     }
 }
 
