@@ -15,7 +15,13 @@ pub struct TextPlace {
 pub fn place_of(text: &[u8], offset: usize) -> TextPlace
     ensures { result ≡ place_from (record { line = 0; column = 0 }) (take offset text.now) }
 {
-    let front = front_of(text, offset);
+    place_after(front_of(text, offset))
+}
+
+/// Returns the place after octets.
+fn place_after(front: &[u8]) -> TextPlace
+    ensures { result ≡ place_from (record { line = 0; column = 0 }) front.now }
+{
     let mut line = 0;
     let mut begins = front;
     let mut left = front;
