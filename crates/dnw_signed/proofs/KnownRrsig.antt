@@ -1,10 +1,10 @@
 -- The octets that an RRSIG has signed of its data: the first 18, and the name after them, in lower case.
-use Rattle.std.proofs.Common.{◌≡◌, ℕ, ◌+◌, ◌-◌, ◌≤◌, None, List, [], ◌∷◌, ◌++◌, length, take, drop, refl, sym, ap, ◌∙◌, subst, append_assoc, append-nil, arith}
+use Rattle.std.proofs.Common.{◌≡◌, ℕ, ◌+◌, ◌-◌, ◌≤◌, None, List, [], ◌∷◌, ◌++◌, length, take, drop, refl, sym, ap, ◌∙◌, subst, append_assoc, arith}
 use Rattle.std.proofs.lemmas.List.{length-append, length-drop, length-take-le}
 use Rattle.std.specs.List.{AllByRecursion, slice_range}
 use Rattle.dnw_base.specs.Decoder.{Decoder, HasLeft, advanced, next_bytes}
 use Rattle.dnw_base.specs.DnsClasses.{class_code}
-use Rattle.dnw_base.specs.Names.{AreLabels, lower, wire}
+use Rattle.dnw_base.specs.Names.{lower, wire}
 use Rattle.dnw_data.specs.Fields.{own_at, size_at}
 use Rattle.dnw_data.specs.Table.{base64, fields_of, lowered_name}
 use Rattle.dnw_data.specs.Values.{own_fault, own_size}
@@ -14,9 +14,8 @@ use Rattle.dnw_data.specs.declared.kind.NameForm.TheVariants.{Lowered}
 use Rattle.dnw_name_read.proofs.Copying.{slice_range_split}
 use Rattle.dnw_name_read.proofs.Counts.{own_octets}
 use Rattle.dnw_name_read.specs.Reading.{TakesName}
-use Rattle.dnw_record.specs.DataCopies.{Copies, TakesPieces, data_start, record_kinds}
+use Rattle.dnw_record.specs.DataCopies.{TakesPieces, data_start, record_kinds}
 use Rattle.dnw_record.specs.DataPieces.{DataPiece, name_piece, octets_of, octets_piece}
-use Rattle.dnw_record.specs.Inside.Copying.{IsNoName}
 use Rattle.dnw_record.specs.Records.{RecordValue}
 use Rattle.dnw_signed.specs.Covering.{HasRrsigType, IsRrsigOf}
 use Rattle.dnw_signed.specs.SignedFields.{before_signer}

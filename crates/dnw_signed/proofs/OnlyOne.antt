@@ -1,11 +1,11 @@
 -- The only record that an RRSIG covers.
-use Rattle.std.proofs.Common.{◌≡◌, ◌≢◌, ◌-◌, drop, ℕ, suc, ◌+◌, ◌<◌, ◌≤◌, false, is_some, Option, Some, None, List, [], ◌∷◌, ◌++◌, length, get_or, take, refl, sym, ap, ◌∙◌, subst, append_assoc, arith}
+use Rattle.std.proofs.Common.{◌≡◌, ◌≢◌, ◌-◌, drop, ℕ, ◌+◌, ◌<◌, false, is_some, Option, Some, None, List, [], ◌∷◌, ◌++◌, length, get_or, take, refl, sym, ap, ◌∙◌, subst, append_assoc, arith}
 use Rattle.std.proofs.lemmas.List.{append-nil, length-drop, length-take-le, take_all}
 use Rattle.std.proofs.Math.Seq.{drop-append_seam}
 use Rattle.std.specs.List.Sorted.{IsStrictlySortedBy}
 use Rattle.std.specs.Borrow.{Bor}
-use Rattle.std.specs.List.{AllByRecursion, flat_map}
-use Rattle.dnw_base.specs.Limits.{max_message, max_pointers}
+use Rattle.std.specs.List.{flat_map}
+use Rattle.dnw_base.specs.Limits.{max_pointers}
 use Rattle.dnw_record.specs.Records.{RecordValue}
 use Rattle.dnw_record.specs.declared.rdata.RDataError.TheVariants as rdata
 use Rattle.dnw_base.specs.DnsClasses.{class_code}

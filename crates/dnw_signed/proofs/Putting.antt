@@ -10,7 +10,7 @@ use Rattle.dnw_data.specs.declared.kind.NameForm.TheVariants.{Compressible, Lowe
 use Rattle.dnw_data.specs.Walks.{IsAtEnd}
 use Rattle.dnw_name_form.proofs.LowerWires.{encoded_size_lower}
 use Rattle.dnw_record.specs.Records.{RecordValue}
-use Rattle.dnw_record.specs.DataCopies.{Copies, TakesPiece, TakesPieces, alone, data_start, record_kinds}
+use Rattle.dnw_record.specs.DataCopies.{Copies, TakesPiece, alone, data_start, record_kinds}
 use Rattle.dnw_record.specs.DataPieces.{DataPiece, DataValue, HasPieces, IsDataOfType, data_kinds, name_piece, octets_of, octets_piece, piece_octets}
 use Rattle.dnw_record.proofs.Alike.{copied_kinds}
 use Rattle.dnw_record.proofs.AnyRecords.{whole_pieces}

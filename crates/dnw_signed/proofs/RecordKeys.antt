@@ -1,5 +1,5 @@
 -- Sort keys of records decide as records do.
-use Rattle.std.proofs.Common.{◌≡◌, ℕ, List, ◌∷◌, ◌++◌, refl, sym, ◌∙◌}
+use Rattle.std.proofs.Common.{refl, sym, ◌∙◌}
 use Rattle.dnw_name_form.specs.LabelOrder.{octets_cmp}
 use Rattle.dnw_name_order.specs.Order.{labels_cmp}
 use Rattle.dnw_name_order.specs.SortKeys.{sort_key}

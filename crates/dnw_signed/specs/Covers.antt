@@ -1,6 +1,5 @@
 -- The names that NSEC and NSEC3 records cover: they prove that there is no such name.
 use Rattle.std.specs.Prelude.{◌≡◌, ◌≢◌, ◌⊎◌, ℕ, List}
-use Rattle.std.specs.declared.cmp.Ordering.{Ordering}
 use Rattle.std.specs.declared.cmp.Ordering.TheVariants.{Less}
 use Rattle.dnw_name_form.specs.LabelOrder.{octets_cmp}
 use Rattle.dnw_name_order.specs.Order.{IsZoneOf, labels_cmp}

@@ -1,5 +1,5 @@
 -- Records whose data have lengths of two octets.
-use Rattle.std.specs.Prelude.{◌≡◌, ◌≤◌, ℕ, List, ◌++◌, length}
+use Rattle.std.specs.Prelude.{◌≡◌, ◌≤◌, List, ◌++◌, length}
 use Rattle.std.specs.List.{All, AllByRecursion}
 use Rattle.dnw_base.specs.Limits.{max_message}
 use Rattle.dnw_record.specs.declared.record.Record.{Record}

@@ -1,4 +1,4 @@
-use Rattle.std.proofs.Common.{◌≡◌, ◌≢◌, ◌∙◌, ap, refl, rules}
+use Rattle.std.proofs.Common.{◌∙◌, ap, refl, rules}
 use Rattle.std.specs.List.{flat_map}
 use Rattle.sha2.specs.Sha512.{sha384, sha512}
 use Rattle.dnw_signed.specs.ZoneDigests.{IsZoneHash, zone_record}
