@@ -1,2 +1,3 @@
 mod Following
+mod Whole
 pub mod Copied

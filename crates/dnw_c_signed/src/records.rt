@@ -14,7 +14,7 @@ use dnw_name::name_ref::NameRef;
 use dnw_name_read::walk::ReadSteps;
 use dnw_record::rdata::RDataError;
 use dnw_record::record::Record;
-use dnw_record::record_ref::RecordRef;
+use dnw_record::record_ref::{FIXED_SIZE, RecordRef};
 use std::alloc::Global;
 
 /// Returns the records from an offset up to the end of the octets. Their owners may follow 65,536 pointers in all.
@@ -61,8 +61,10 @@ pub(crate) fn next_record<'r>(
     ensures ok { IfOk result (λ r. TakesNextRecord reader.old left.old r reader.new left.new) }
     ensures err { IfErr result (IsNoNextRecord reader.old left.old) }
 {
-    let followed = owner_pointers(reader.message(), reader.index())?;
+    let message = reader.message();
+    let start = reader.index();
     let item = RecordRef::read_next(reader)?;
+    let followed = owner_pointers(message, start, &item)?;
     if followed > *left {
         return Err(Failure::TooManyPointers);
     }
@@ -70,12 +72,17 @@ pub(crate) fn next_record<'r>(
     Ok(item)
 }
 
-/// Returns how many pointers the owner of the record at an offset follows.
-fn owner_pointers(message: &[u8], start: usize) -> Result<usize, DecodeError>
-    requires { start ≤ length message.now }
+/// Returns how many pointers the owner of the record at an offset follows. An owner that takes as many octets there as its wire form
+/// does is not read again.
+fn owner_pointers(message: &[u8], start: usize, item: &RecordRef<'_>) -> Result<usize, DecodeError>
+    requires within { start ≤ length message.now }
+    requires there { HasRecordAt message.now start item.now }
     ensures ok { IfOk result (λ k. (labels : List (List ℕ)) × (end : ℕ) × NameAt message.now start labels end k) }
     ensures err { IfErr result (FailsRecord (at_offset message.now start)) }
 {
+    if item.rdata_offset() == start + item.owner().encoded_len() + FIXED_SIZE {
+        return Ok(0);
+    }
     let mut steps = ReadSteps::default();
     let mut reader = BinDecoder::new(message);
     reader.skip(start).unwrap();
