@@ -9,7 +9,7 @@ use Rattle.dnw_base.specs.Names.{wire}
 use Rattle.dnw_data.proofs.Codes.{class_back, code_back}
 use Rattle.dnw_name_read.specs.Reading.{NameAt, TakesName}
 use Rattle.dnw_name.specs.Decodable.{StopsSomehow}
-use Rattle.dnw_record.specs.Records.{FailsRecord, HasRest, RecordAt, class_field, fixed_at, fixed_size, length_field, number_at, record_of, ttl_field}
+use Rattle.dnw_record.specs.Records.{HasRest, RecordAt, fixed_at, fixed_size, length_field, number_at, record_of, ttl_field}
 use Rattle.dnw_c_base.specs.Failures.{of_decode}
 use Rattle.dnw_c_base.specs.Offsets.{at_offset}
 use Rattle.dnw_c_base.specs.Results.{PutsWithin}
