@@ -125,7 +125,7 @@ fn record_line(alloc: Global, record: &RecordRef<'_>) -> Result<String, Refusal>
     match RData::from_ref(alloc, record) {
         Ok(data) => push_data(alloc, &mut object, data.octets())?,
         // Data that are not of their type are shown as they stand.
-        Err(RDataError::Field(_)) => push_data(alloc, &mut object, record.rdata())?,
+        Err(RDataError::Field(_fault)) => push_data(alloc, &mut object, record.rdata())?,
         Err(error) => return Err(Refusal::Data(error)),
     }
     object.finish()
