@@ -21,7 +21,7 @@ records     Record, RRset; rrsets, read_record, records, parse_ttl; RecordType, 
             type_text, type_code, class_text, class_code
 data        Data, with a class for each type, as A, MX, SOA or TXT, and Unknown for any other;
             FieldValue, TypeSet; data_from_text, data_from_wire
-zone files  read_zone, zone_lines, ZoneError
+zone files  read_zone, zone_lines, ZoneError; check_zone, ZoneFinding
 names       Name, NameAt; read_name, names, sort_names; reverse_name, parse_reverse_name
 DNSSEC      Record.signed_octets; key_tag, ds_digest, zone_digest, nsec_covers, nsec3_covers,
             nsec3_hash, nsec3_label
@@ -90,5 +90,7 @@ from ._table import FieldValue as FieldValue
 from ._text import parse_ttl as parse_ttl
 from ._types import TypeSet as TypeSet, serial_add as serial_add, serial_compare as serial_compare
 from ._writer import MessageWriter as MessageWriter
-from ._zones import ZoneError as ZoneError, read_zone as read_zone, zone_lines as zone_lines
+from ._zones import (
+    ZoneError as ZoneError, ZoneFinding as ZoneFinding, check_zone as check_zone, read_zone as read_zone, zone_lines as zone_lines,
+)
 from ._version import VERSION as __version__

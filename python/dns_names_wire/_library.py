@@ -125,6 +125,10 @@ class OptionParts(ctypes.Structure):
     ]
 
 
+class ZoneFinding(ctypes.Structure):
+    _fields_ = [("check", c_uint32), ("is_error", c_bool), ("number", c_size_t), ("other", c_size_t)]
+
+
 class Table(ctypes.Structure):
     _fields_ = [("row_count", c_size_t), ("names_len", c_size_t)]
 
@@ -241,6 +245,7 @@ _FUNCTIONS = {
     "dnw_nsec3_label": (*_READ, c_uint8, c_uint16, *_READ, c_uint16, *_WRITTEN, POINTER(c_size_t)),
     "dnw_nsec_covers": (*_READ, *_READ, *_READ, POINTER(c_bool)),
     "dnw_nsec3_covers": (*_READ, *_READ, *_READ, POINTER(c_bool)),
+    "dnw_zone_check": (*_READ, *_READ, POINTER(ZoneFinding), c_size_t, POINTER(c_size_t)),
     "dnw_zone_digest": (*_READ, *_READ, c_uint8, *_WRITTEN, POINTER(c_size_t)),
     "dnw_reverse_name": (*_READ, *_WRITTEN, POINTER(c_size_t)),
     "dnw_reverse_parse": (*_READ, *_WRITTEN, POINTER(Net)),

@@ -5,13 +5,15 @@ import io
 import os
 import stat
 from ctypes import byref, c_char, c_size_t
-from typing import Any, BinaryIO, Callable, Iterable, Iterator, List, Optional, Tuple, Union
+from typing import Any, BinaryIO, Callable, Iterable, Iterator, List, NamedTuple, Optional, Tuple, Union
 
 from . import _checks
 from ._checks import Bytes
 from ._data import NameLike
 from ._errors import DnsError, check
-from ._library import NO_ROOM, PrintedRecord, SentenceText, Zone, ZoneEntry, by_address, library, taken
+from ._library import (
+    NO_ROOM, PrintedRecord, SentenceText, Zone, ZoneEntry, ZoneFinding as Finding, by_address, library, taken,
+)
 from ._names import Name, whole_name
 from ._records import Record, record_of
 
@@ -288,3 +290,67 @@ def _lines(records: Iterable[Record], origin: bytes, ttl: Optional[int], zone: Z
             number = library.dnw_zone_put_record(*arguments, room, len(room), byref(printed))
         check(number, start)
         yield taken(room, printed.len).decode("ascii")
+
+
+# What a zone is found to have, by the numbers of the checks in `dns_names_wire.h`.
+_REASONS = (
+    "", "no SOA record is at the apex", "no NS record is at the apex", "the owner is not in the zone",
+    "the class is not that of the first record", "a SOA record is not at the apex",
+    "the owner has two records of a type of which there is one", "the time to live is not that of the set's first record",
+    "the owner of a CNAME record has other data", "a DS record is not at a delegation",
+    "the owner is below that of a DNAME record", "the owner is below a delegation, and the record is no address",
+    "the owner is no name that hosts have", "the name of a server is an alias",
+    "the name of a server has no address in the zone",
+)
+
+
+class ZoneFinding(NamedTuple):
+    """What a zone is found to have that the standards forbid or advise against. `str` shows it.
+
+    `check` is the number of the check in `dns_names_wire.h`, `record` is the record that it is about, and `other` is another one
+    that the record is not right beside. Both are `None` if no record is meant.
+    """
+
+    check: int
+    reason: str
+    is_error: bool
+    record: Optional[Record]
+    other: Optional[Record]
+
+    def __str__(self) -> str:
+        kind = "error" if self.is_error else "warning"
+        shown = [str(record) for record in (self.record, self.other) if record is not None]
+        return ": ".join([kind, self.reason] + ["; ".join(shown)] * bool(shown))
+
+
+def check_zone(records: Iterable[Record], zone: NameLike) -> List[ZoneFinding]:
+    """Returns what a zone has that the standards forbid or advise against, by its records, in any order: first what its apex
+    lacks, and then what is found of each record, in canonical order of the owners (RFC 4034, section 6.1).
+
+    Errors are what servers refuse, such as a CNAME record beside other data (RFC 2181, section 10.1), a name server of the zone
+    without an address, or an owner that is not in the zone; warnings are, for one, different TTLs in a set (RFC 2181, section
+    5.2). What DNSSEC asks of a zone is not checked.
+
+    Raises `ValueError` if the zone is relative, and `TypeError` if an item is not a `Record`.
+
+    >>> zone = [Record.from_text(line) for line in ("a. 60 NS ns.a.", "a. 60 SOA ns.a. h.a. 1 2 3 4 5", "b.a. 60 CNAME a.")]
+    >>> for finding in check_zone(zone, "a."):
+    ...     print(finding)
+    error: the name of a server has no address in the zone: a. 60 IN NS ns.a.
+    """
+    wire, given = whole_name("zone", zone).wire, list(records)
+    for record in given:
+        if not isinstance(record, Record):
+            raise _checks.wrong_type("records", "a Record is", record)
+    given.sort(key=lambda record: record.owner.sort_key())
+    whole = b"".join(record.to_wire() for record in given)
+    most, count = 2 + 10 * len(given), c_size_t()
+    found = (Finding * most)()
+    check(library.dnw_zone_check(wire, len(wire), whole, len(whole), found, most, byref(count)))
+    return [_finding(it, given) for it in found[: count.value]]
+
+
+def _finding(it: Finding, records: List[Record]) -> ZoneFinding:
+    """Returns a finding of these records."""
+    record, other = (records[number] if number < len(records) else None for number in (it.number, it.other))
+    return ZoneFinding(it.check, _REASONS[it.check], it.is_error, record, other)

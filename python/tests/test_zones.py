@@ -8,7 +8,7 @@ import tracemalloc
 import unittest
 
 import dns_names_wire as dnw
-from dns_names_wire import Name, Record, ZoneError, read_zone, zone_lines
+from dns_names_wire import Name, Record, ZoneError, check_zone, read_zone, zone_lines
 
 try:
     import dns.exception
@@ -273,6 +273,36 @@ class Dnspython(unittest.TestCase):
             if "CNAME" in data:
                 lines.append("@ TXT x")
         return ("\n".join(lines) + made.choice(["", "\n"])).encode()
+
+
+class Checks(unittest.TestCase):
+    """What zones are found to have; the expected findings are worked by hand from the RFCs, and `named-checkzone` has them."""
+
+    ZONE = [
+        "a. 60 SOA ns.a. h.a. 1 2 3 4 5", "a. 60 NS ns.a.", "A. 60 NS lost.a.", "b. 60 TXT x", "c.a. 60 CNAME ns.a.",
+        "c.a. 60 TXT x", "ns.a. 60 A 192.0.2.1", "ns.a. 61 A 192.0.2.2", "m.a. 60 MX 5 c.a.",
+    ]  # fmt: skip
+
+    def test_findings(self):
+        zone = [Record.from_text(line) for line in self.ZONE]
+        found = [(it.check, it.is_error, it.record, it.other) for it in check_zone(iter(zone[::-1]), "A.")]
+        wanted = [
+            (14, True, zone[2], None), (8, True, zone[4], zone[5]), (13, True, zone[8], zone[4]), (7, False, zone[6], zone[7]),
+            (3, True, zone[3], None),
+        ]  # fmt: skip
+        self.assertEqual(found, wanted)
+        self.assertEqual(str(check_zone(zone, "a.")[1]), f"error: the owner of a CNAME record has other data: {zone[4]}; {zone[5]}")
+
+    def test_no_records(self):
+        found = check_zone([], "a.")
+        self.assertEqual([(it.check, it.record) for it in found], [(1, None), (2, None)])
+        self.assertEqual(str(found[0]), "error: no SOA record is at the apex")
+
+    def test_wrong_arguments(self):
+        with self.assertRaises(ValueError):
+            check_zone([], "a")
+        with self.assertRaises(TypeError):
+            check_zone(["a. 60 TXT x"], "a.")
 
 
 if __name__ == "__main__":

@@ -61,6 +61,16 @@ pub(crate) struct ReadName {
     pub(crate) end: usize,
 }
 
+/// `struct dnw_zone_finding`
+#[repr(C)]
+#[derive(Clone, Default)]
+pub(crate) struct ZoneFinding {
+    pub(crate) check: u32,
+    pub(crate) is_error: bool,
+    pub(crate) number: usize,
+    pub(crate) other: usize,
+}
+
 /// `struct dnw_parsed_name`
 #[repr(C)]
 #[derive(Default)]
@@ -573,6 +583,15 @@ extern "C" {
         hash: *const u8,
         hash_len: usize,
         covers: *mut bool,
+    ) -> u32;
+    fn dnw_zone_check(
+        zone: *const u8,
+        zone_len: usize,
+        records: *const u8,
+        records_len: usize,
+        findings: *mut ZoneFinding,
+        findings_size: usize,
+        count: *mut usize,
     ) -> u32;
     fn dnw_zone_digest(
         apex: *const u8,

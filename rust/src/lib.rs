@@ -31,6 +31,7 @@
 //! | make records from data by type, or parse them from lines of master files | [`RecordBuf`] |
 //! | read zone files, with the place of each error | [`ZoneReader`]; with `std`, `ZoneFile`, which follows `$INCLUDE`, and `ZoneStream` |
 //! | write zone files | [`ZoneWriter`] |
+//! | check zones | [`check_zone`] |
 //! | keep data by type, and sets of records | [`owned`], [`RecordSet`] |
 //! | verify signatures, or make them | [`Record::signed_octets`] |
 //! | make key tags and digests of keys and zones, hash names, and check denials | [`dnssec`] |
@@ -101,7 +102,7 @@ pub use record_set::RecordSet;
 pub use ttl::parse_ttl;
 pub use type_set::TypeSet;
 pub use writer::{MessageWriter, Need};
-pub use zone::{ZoneError, ZoneInclude, ZoneItem, ZoneReader, ZoneWriter};
+pub use zone::{check_zone, ZoneError, ZoneFinding, ZoneInclude, ZoneItem, ZoneReader, ZoneWriter};
 #[cfg(feature = "std")]
 pub use zone::{ZoneFile, ZoneStream};
 

@@ -12,6 +12,7 @@ use core::iter::FusedIterator;
 mod error;
 #[cfg(feature = "std")]
 mod file;
+mod findings;
 #[cfg(feature = "std")]
 mod stream;
 mod writer;
@@ -19,6 +20,7 @@ mod writer;
 pub use error::ZoneError;
 #[cfg(feature = "std")]
 pub use file::ZoneFile;
+pub use findings::{check_zone, ZoneFinding};
 #[cfg(feature = "std")]
 pub use stream::ZoneStream;
 pub use writer::ZoneWriter;

@@ -1,6 +1,6 @@
 //! Zone files: their records, the places of what is not valid, and files that include others. Each file in the folder `zones`
 //! says where its records come from.
-use dns_names_wire::{Name, RecordBuf, ZoneError, ZoneItem, ZoneReader, ZoneWriter};
+use dns_names_wire::{check_zone, Name, RecordBuf, ZoneError, ZoneItem, ZoneReader, ZoneWriter};
 
 /// The text and the records of a zone of all kinds of entries.
 const EXAMPLE: &[u8] = include_bytes!("zones/example.zone");
@@ -359,4 +359,25 @@ fn what_is_written_is_read() {
     let large = format!("a. 60 IN TXT{}", " x".repeat(30000)).parse::<RecordBuf>().unwrap();
     writer.push(&large).unwrap();
     assert_eq!(writer.text(), format!("a. 60 IN TXT{}\n", " \"x\"".repeat(30000)));
+}
+
+/// Lines of a zone in no order, and the numbers of the checks and of the records of what is found, worked by hand.
+#[test]
+fn zones_are_checked() {
+    let lines = [
+        "ns.a. 60 A 192.0.2.1", "ns.a. 61 A 192.0.2.2", "a. 60 SOA ns.a. h.a. 1 2 3 4 5", "a. 60 NS ns.a.", "b. 60 TXT x",
+        "A. 60 NS lost.a.", "c.a. 60 CNAME ns.a.", "m.a. 60 MX 5 c.a.", "c.a. 60 TXT x",
+    ];
+    let zone: Vec<RecordBuf> = lines.iter().map(|line| line.parse().unwrap()).collect();
+    let found = check_zone(&"A.".parse::<Name>().unwrap(), &zone).unwrap();
+    let numbers: Vec<_> = found.iter().map(|it| (it.check(), it.is_error(), it.record(), it.other())).collect();
+    let wanted = [
+        (14, true, Some(5), None), (8, true, Some(6), Some(8)), (13, true, Some(7), Some(6)), (7, false, Some(1), Some(0)),
+        (3, true, Some(4), None),
+    ];
+    assert_eq!(numbers, wanted);
+    assert_eq!(found[3].to_string(), "warning: the time to live is not that of the set's first record");
+    let none: [RecordBuf; 0] = [];
+    let lacks = check_zone(&Name::root(), &none).unwrap();
+    assert_eq!(lacks.iter().map(|it| it.check()).collect::<Vec<_>>(), [1, 2]);
 }

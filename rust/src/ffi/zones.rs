@@ -1,6 +1,7 @@
 //! Zone files.
 use super::*;
 use alloc::string::String;
+use alloc::vec;
 
 /// `DNW_ZONE_END` and the other numbers of `enum dnw_zone_kind`.
 pub(crate) const ZONE_END: u32 = 0;
@@ -143,4 +144,15 @@ pub(crate) fn fault_reason(fault: &MasterFault) -> String {
         Some((_, reason)) => reason.into(),
         None => "the entry is not valid".into(),
     }
+}
+
+/// Returns what a zone is found to have, by so many records.
+pub(crate) fn check_zone(zone: &[u8], records: &[u8], records_count: usize) -> Result<Vec<ZoneFinding>, Error> {
+    // No record has more than ten findings, and the zone two.
+    let mut found = vec![ZoneFinding::default(); records_count.saturating_mul(10).saturating_add(2)];
+    let (mut count, name, size, room) = (0, zone.as_ptr(), zone.len(), found.as_mut_ptr());
+    // SAFETY: pointers with their lengths, see the module.
+    let number = unsafe { dnw_zone_check(name, size, records.as_ptr(), records.len(), room, found.len(), &mut count) };
+    found.truncate(count);
+    outcome(number, found)
 }
