@@ -169,6 +169,10 @@ pub use Rattle.dnw_zone_file.specs.Written.{AppendsLine, AreOfType, IsSameRecord
 pub use Rattle.dnw_zone_file.specs.WriterLaws.{HasDataOctets, IsWrittenRecord, LinesAreEntries, LinesAreReadBack}
 pub use Rattle.dnw_zone_file.specs.ShortLines.{AppendsOrigin, AppendsShort, AppendsTtl, IsBefore, IsShortName, IsShortOwner, IsShortText, origin_line, short_head, short_line, short_rest, short_ttl, ttl_line}
 pub use Rattle.dnw_zone_file.specs.WriterLaws.{IsWrittenZone, NothingIsWritten, OriginsAreAdded, OriginsAreEntries, ZoneRecordsAreAdded, ShortLinesAreEntries, ShortLinesAreReadBack, TtlsAreAdded, TtlsAreEntries, WrittenTextsAreRecords}
+pub use Rattle.dnw_zone_file.specs.Findings.{check_number, finding, is_error, listed}
+pub use Rattle.dnw_zone_file.specs.HostNames.{is_host_label, is_host_name}
+pub use Rattle.dnw_zone_file.specs.Checks.{AreFindings, AreFindingsFrom, AreOfServer, FailsCheck, IsNameAfter, IsOutOfOrder, IsRecordFindings, IsServer, apex_findings, own_findings, server_findings}
+unfoldable pub use Rattle.dnw_zone_file.specs.Checks.{OwnersAreInOrder, first_at, is_in, is_same}
 -- Whole messages: headers, sections and EDNS.
 pub use Rattle.dnw_message_read.specs.HeaderLaws.{HeaderFits, HeadersReadBack, HeadersWriteBack}
 pub use Rattle.dnw_message_read.specs.Headers.{TakesHeader, flag, flags_of, header_of, header_size, header_wire, is_set, metadata_of}
