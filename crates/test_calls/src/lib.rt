@@ -65,4 +65,6 @@ mod whole_messages;
 #[cfg(test)]
 mod written_messages;
 #[cfg(test)]
+mod zone_checks;
+#[cfg(test)]
 mod zones;
