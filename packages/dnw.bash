@@ -20,11 +20,11 @@ _dnw() {
         name,2) words='--key --reverse --sort' ;;
         name,3) [ "${COMP_WORDS[2]}" != --sort ] || words=- ;;
         zone,3) words=--origin ;;
-        zone,5) words='--sort --relative --wire' ;;
+        zone,5) words='--sort --relative --wire --check' ;;
         zone,6)
             case ${COMP_WORDS[5]} in
-                --sort) words='--relative --wire' ;;
-                --relative | --wire) words=--sort ;;
+                --sort) words='--relative --wire --check' ;;
+                --relative | --wire | --check) words=--sort ;;
             esac
             ;;
     esac

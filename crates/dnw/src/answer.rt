@@ -12,6 +12,7 @@ use dns_names_wire::message::{EdnsError, MessageError};
 use dns_names_wire::message_writer::WriteError;
 use dns_names_wire::name_text::NameTextError;
 use dns_names_wire::rdata::RDataError;
+use dns_names_wire::zone::CheckError;
 use dns_names_wire::{DecodeError, ProtoError};
 use hex::FromHexError;
 use std::alloc::{AllocError, AllocFailed, Global};
@@ -57,8 +58,12 @@ are shown instead, as FILE:LINE:COLUMN, with the line and a mark. The FILE - is 
   --relative  a zone file, which leaves out what its $ORIGIN, $TTL and the last owner say
   --wire      one line a record: its wire form without compression (RFC 1035, section 4.1.3), in
               hexadecimal digits. After a header that counts them, they are a message (see below).
+  --check     what the zone NAME has that the standards forbid or advise against, as FILE:LINE: an
+              error, such as a CNAME record beside other data, a name server without an address or
+              a record of another zone; or a warning, such as two times to live in a set
 
-Exit status: 0 after an answer, 1 if what was given is refused, 2 if the words ask for nothing.
+Exit status: 0 after an answer, 1 if what was given is refused or a check finds an error, 2 if the
+words ask for nothing.
 
 Examples: dnw query example.com. MX --dnssec | dnw message -
           dnw message replies.bin --framed --json
@@ -135,6 +140,9 @@ enum Refusal {
     /// There is no sum.
     #[error("refused: {0}")]
     Sum(DnssecError),
+    /// A zone is not checked.
+    #[error("refused: {0}")]
+    Check(CheckError),
     /// A zone file has entries that are none: the lines that say where, and why.
     #[error("{0}")]
     Zone(String),
@@ -191,6 +199,12 @@ impl From<RDataError> for Refusal {
 impl From<DnssecError> for Refusal {
     fn from(e: DnssecError) -> Self {
         Refusal::Sum(e)
+    }
+}
+
+impl From<CheckError> for Refusal {
+    fn from(e: CheckError) -> Self {
+        Refusal::Check(e)
     }
 }
 
@@ -269,7 +283,8 @@ fn reply<E: Files + RandomSource + AllocGlobal, I: Read>(
     }
 }
 
-/// What the words after the origin of a zone ask for. Each is there at most once, and of `--relative` and `--wire` only one.
+/// What the words after the origin of a zone ask for. Each is there at most once, and of `--relative`, `--wire` and `--check` only
+/// one.
 fn wanted_of(options: &[String]) -> Result<zones::Wanted, Refusal> {
     let mut wanted = zones::Wanted {
         form: zones::Form::Lines,
@@ -282,6 +297,9 @@ fn wanted_of(options: &[String]) -> Result<zones::Wanted, Refusal> {
                 wanted.form = zones::Form::Relative;
             }
             "--wire" if wanted.form == zones::Form::Lines => wanted.form = zones::Form::Wire,
+            "--check" if wanted.form == zones::Form::Lines => {
+                wanted.form = zones::Form::Findings;
+            }
             _ => return Err(Refusal::Usage),
         }
     }

@@ -1,5 +1,6 @@
 //! Zone files, as lines of their records.
 
+mod checked;
 mod faults;
 mod includes;
 mod shown;
@@ -97,7 +98,7 @@ pub(super) fn listing<E: Files>(
         }
     }
     if lines.errors.is_empty() {
-        lines.records.finish(alloc)
+        lines.records.finish(alloc, file)
     } else {
         Err(Refusal::Zone(lines.errors))
     }
@@ -125,7 +126,14 @@ fn entry<E: Files>(
     };
     let next = match &step.found {
         Ok(Found::Entry(Entry::Record(found))) => {
-            add_record(alloc, &source.context, found, &mut lines.records)?;
+            add_record(
+                alloc,
+                &source.context,
+                found,
+                source.name.as_str(),
+                source.place.line,
+                &mut lines.records,
+            )?;
             Next::Entry
         }
         Ok(Found::Entry(Entry::Include(include))) => {
@@ -171,11 +179,13 @@ fn included<E: Files>(
     }
 }
 
-/// Adds a record.
+/// Adds the record of an entry that begins in this line of a file.
 fn add_record(
     alloc: Global,
     context: &Context,
     found: &ZoneRecord,
+    file: &str,
+    line: usize,
     records: &mut Shown,
 ) -> Result<(), Refusal> {
     let Some(owner) = &context.owner else {
@@ -190,7 +200,7 @@ fn add_record(
     octets.extend_from_slice(&found.ttl.to_be_bytes())?;
     octets.extend_from_slice(&len.to_be_bytes())?;
     octets.extend_from_slice(found.wire.as_slice())?;
-    records.add(alloc, octets)
+    records.add(alloc, octets, file, line)
 }
 
 /// Appends why an entry is none. It fails if memory ran out while it was read.

@@ -1,5 +1,6 @@
 //! The records of a zone, as they are shown.
 
+use super::checked;
 use crate::answer::Refusal;
 use dns_names_wire::binary::BinDecodable;
 use dns_names_wire::canonical::record_key;
@@ -17,6 +18,8 @@ pub(crate) enum Form {
     Relative,
     /// Each as a line of the hexadecimal digits of its wire form.
     Wire,
+    /// Not at all, but what they are found to have.
+    Findings,
 }
 
 /// What of a zone is asked for.
@@ -28,13 +31,17 @@ pub(crate) struct Wanted {
     pub(crate) is_sorted: bool,
 }
 
+/// A record that is kept, in wire form: after its sort key, and after the number of records that were kept before it.
+pub(super) type Kept = (Vec<u8>, usize, Vec<u8>);
+
 /// The records of a zone, shown, or kept until all are there.
 #[derive(Drop)]
 pub(super) struct Shown {
     page: Page,
     is_sorted: bool,
-    /// The records that are kept, in wire form: each after its sort key, and after the number of records that were kept before it.
-    kept: Vec<(Vec<u8>, usize, Vec<u8>)>,
+    kept: Vec<Kept>,
+    /// The places of the records that are kept, as they came.
+    places: Vec<String>,
 }
 
 impl Shown {
@@ -46,24 +53,44 @@ impl Shown {
                 context,
                 text: String::new(alloc),
             },
-            is_sorted: wanted.is_sorted,
+            is_sorted: wanted.is_sorted || wanted.form == Form::Findings,
             kept: Vec::new(alloc),
+            places: Vec::new(alloc),
         }
     }
 
-    /// Adds the record that has this wire form.
-    pub(super) fn add(&mut self, alloc: Global, wire: Vec<u8>) -> Result<(), Refusal> {
+    /// Adds the record that has this wire form, of a line of a file, from 0.
+    pub(super) fn add(
+        &mut self,
+        alloc: Global,
+        wire: Vec<u8>,
+        file: &str,
+        line: usize,
+    ) -> Result<(), Refusal> {
         if !self.is_sorted {
             return self.page.show(alloc, wire.as_slice());
         }
         let key = record_key(alloc, &RecordRef::from_bytes(alloc, wire.as_slice())?)?;
         self.kept.push((key, self.kept.len(), wire))?;
+        if self.page.form == Form::Findings {
+            self.places
+                .push(format!(in alloc; "{file}:{}", line.saturating_add(1))?)?;
+        }
         Ok(())
     }
 
-    /// Returns the text of all records, without the end of its last line.
-    pub(super) fn finish(mut self, alloc: Global) -> Result<String, Refusal> {
+    /// Returns the text of all records of a file, or of what they are found to have, without the end of its last line.
+    pub(super) fn finish(mut self, alloc: Global, file: &str) -> Result<String, Refusal> {
         self.kept.sort_unstable();
+        if self.page.form == Form::Findings {
+            return checked::findings(
+                alloc,
+                file,
+                &self.page.context.origin,
+                self.kept.as_slice(),
+                self.places.as_slice(),
+            );
+        }
         for (_, _, wire) in &self.kept {
             self.page.show(alloc, wire.as_slice())?;
         }
@@ -97,6 +124,7 @@ impl Page {
                 writeln!(self.text, "{line}")?;
                 Ok(())
             }
+            Form::Findings => Ok(()),
         }
     }
 
