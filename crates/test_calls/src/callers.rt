@@ -18,7 +18,7 @@ use uses::reply::write_reply;
 use uses::reverse::net_of;
 use uses::scripts::append_record;
 use uses::zone::first_in_zone;
-use uses::zone_file::count_of;
+use uses::zone_file::{count_of, write_file};
 
 #[test]
 fn names_of_a_reply(rt: HostRuntime) -> Result<(), Fail> {
@@ -200,5 +200,20 @@ fn records_of_a_zone_file_are_counted(rt: HostRuntime) -> Result<(), Fail> {
     let text = b"@ 60 SOA a b 1 2 3 4 5\n  NS ns\nns A 192.0.2.1 ; one\n   A ( 192.0.2.2\n)\n";
     let origin = Name::from_ascii(alloc, "example.")?;
     assert_eq!(rt; count_of(alloc, origin, text.as_slice(), RecordType::A)?, 2);
+    Ok(())
+}
+
+#[test]
+fn a_record_is_written_as_a_zone_file(rt: HostRuntime) -> Result<(), Fail> {
+    let alloc = rt.alloc();
+    let origin = Name::from_ascii(alloc, "example.")?;
+    let octets = b"\x01a\x07example\x00\x00\x10\x00\x01\x00\x00\x00\x3c\x00\x02\x01x";
+    let text = write_file(alloc, &origin, 60, octets)?;
+    assert_eq!(rt; text.as_slice(), b"$TTL 60\na IN TXT \"x\"\n".as_slice());
+    assert_eq!(rt;
+        count_of(alloc, origin, text.as_slice(), RecordType::TXT)?,
+        1
+    );
+    assert!(rt; write_file(alloc, &Name::root(alloc), 60, b"\x01a").is_err());
     Ok(())
 }
