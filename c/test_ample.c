@@ -586,6 +586,22 @@ static void digests_zones(size_t size)
     EXPECT(dnw_zone_digest((const uint8_t *)"", 1, input, input_len, 2, output, sizeof output, &len) == DNW_DONE && len == 64);
 }
 
+/* So many records of the root, which has no SOA and no NS. The second and later ones have another time to live. */
+static void checks_zones(size_t size)
+{
+    static struct dnw_zone_finding findings[MOST + 2];
+    size_t count = 7;
+    input_len = 0;
+    for (size_t n = 0; n < size; n++) {
+        put_numbered(n);
+        input[input_len - 7] = n == 0 ? 60 : 61;
+    }
+    EXPECT(dnw_zone_check((const uint8_t *)"", 1, input, input_len, findings, MOST + 2, &count) == DNW_DONE);
+    EXPECT(count == 2 + (size == 0 ? 0 : size - 1));
+    EXPECT(findings[0].check == DNW_CHECK_NO_SOA && findings[1].check == DNW_CHECK_NO_NS);
+    EXPECT(size < 2 || (findings[count - 1].check == DNW_CHECK_OTHER_TTL && findings[count - 1].number == size - 1));
+}
+
 static const struct row {
     const char *function;
     void (*test)(size_t size);
@@ -608,6 +624,7 @@ static const struct row {
     {"dnw_signed_octets", signs},
     {"dnw_record_sort_key", makes_keys},
     {"dnw_zone_digest", digests_zones},
+    {"dnw_zone_check", checks_zones},
     {"dnw_types_read", reads_types},
     {"dnw_types_write", writes_types},
     {"dnw_ttl_parse", parses_times},

@@ -15,6 +15,7 @@ use dns_names_wire::name::Name;
 use dns_names_wire::rdata::{RData, Record};
 use dns_names_wire::record::RecordRef;
 use dns_names_wire::record_type::RecordType;
+use dns_names_wire::zone::check_zone;
 use std::alloc::Global;
 use std::test::Fail;
 
@@ -169,6 +170,28 @@ fn a_set_may_have_many_records(rt: HostRuntime) -> Result<(), Fail> {
         assert!(rt; signed_octets(alloc, rrsig, items.as_slice(), &mut out).is_ok());
         assert_eq!(rt; out.len(), wanted.saturating_add(RRSIG.len()));
         assert!(rt; zone_digest(alloc, &Name::root(alloc), owned.as_slice(), 1).is_ok());
+    }
+    Ok(())
+}
+
+/// So many records of the root, which has no SOA and no NS. The second and later ones have another time to live.
+#[test]
+fn a_zone_may_have_many_findings(rt: HostRuntime) -> Result<(), Fail> {
+    let alloc = rt.alloc();
+    for count in COUNTS {
+        let mut bytes = record_octets(alloc, 10, b"x")?;
+        let mut other = record_octets(alloc, 10, b"x")?;
+        other[8] = 61;
+        for _ in 1..count {
+            bytes.extend_from_slice(other.as_slice())?;
+        }
+        let mut reader = BinDecoder::new(bytes.as_slice());
+        let mut records = Vec::new(alloc);
+        for _ in 0..count {
+            records.push(RecordRef::read_next(&mut reader)?)?;
+        }
+        let found = check_zone(alloc, &Name::root(alloc), records.as_slice());
+        assert!(rt; matches!(found, Ok(list) if list.len() == count.saturating_add(1)));
     }
     Ok(())
 }

@@ -24,6 +24,7 @@ use std::test::Fail;
 
 /// An address of the root, as a record and as an entry of a zone file.
 const ADDRESS: &[u8] = b"\x00\x00\x01\x00\x01\x00\x00\x00\x3c\x00\x04\xc0\x00\x02\x01";
+
 const ENTRY: &[u8] = b". 60 IN A 192.0.2.1\n";
 
 #[test]
@@ -117,9 +118,14 @@ fn records_of_any_size_are_owned_and_written(rt: HostRuntime) -> Result<(), Fail
         let own = octets(alloc, len)?;
         let bytes = record_octets(alloc, 10, own.as_slice())?;
         let record = RecordRef::from_bytes(alloc, bytes.as_slice())?;
-        assert_eq!(rt; RData::from_ref(alloc, &record)?.to_bytes(alloc)?.as_slice(), own.as_slice());
         assert_eq!(rt;
-            Record::from_ref(alloc, &record)?.to_bytes(alloc)?.as_slice(),
+            RData::from_ref(alloc, &record)?.to_bytes(alloc)?.as_slice(),
+            own.as_slice()
+        );
+        assert_eq!(rt;
+            Record::from_ref(alloc, &record)?
+                .to_bytes(alloc)?
+                .as_slice(),
             bytes.as_slice()
         );
         let Ok(checked) = CheckedRecord::new(record) else {
@@ -158,7 +164,10 @@ fn bitmaps_may_have_all_windows(rt: HostRuntime) -> Result<(), Fail> {
         let len = Restrict::new(windows.saturating_mul(34));
         let mut decoder = BinDecoder::new(bitmap.as_slice());
         let set = RecordTypeSet::read_data(alloc, &mut decoder, len)?;
-        assert_eq!(rt; set.iter().count(), usize::from(windows).saturating_mul(256));
+        assert_eq!(rt;
+            set.iter().count(),
+            usize::from(windows).saturating_mul(256)
+        );
     }
     Ok(())
 }
