@@ -5,7 +5,7 @@ ghost use Rattle.dnw_c_base.specs.Results.{Returns};
 ghost use Rattle.dnw_message_read.specs.Codes.{option_of_code};
 ghost use Rattle.dnw_message_read.specs.Rules.{option_octets};
 ghost use Rattle.dnw_message_read.specs.Values.{seen_option};
-ghost use Rattle.dnw_c_messages.specs.OptionValues.{PutsOptionOctets, ReadsOptionParts, SaysOption, error_said, given, of_option, only, parts_said};
+ghost use Rattle.dnw_c_messages.specs.OptionValues.{PutsOptionOctets, ReadsOptionParts, SaysOption, error_said, given, not_given, of_option, only, parts_said};
 
 use dnw_c_base::buffer::put;
 use dnw_c_base::failure::Failure;
