@@ -246,7 +246,9 @@ static void reads_data(size_t size)
     put("\300\000", 2);
     size_t rest = size + 20 > LONGEST ? LONGEST - 20 : size;
     fill('s', rest);
-    EXPECT(dnw_record_data(input, input_len, 0, output, sizeof output, &len) == DNW_DONE && len == rest + 21);
+    /* with the name whole they are one octet longer, which may be one too many */
+    uint32_t failure = dnw_record_data(input, input_len, 0, output, sizeof output, &len);
+    EXPECT(failure == (rest + 21 > LONGEST ? DNW_DATA_TOO_LONG : DNW_DONE) && (failure != DNW_DONE || len == rest + 21));
 }
 
 /* A record of so many octets is printed, and its line and the data in it are parsed as the same octets. */
