@@ -330,7 +330,7 @@ class Texts(unittest.TestCase):
         shown = set(re.findall(r"\w+", dnw.__doc__ or ""))
         hidden = {name for name in names - shown if not isinstance(getattr(dnw, name), type)}
         self.assertEqual(hidden, set())
-        kinds = {name for name in names - shown if not issubclass(getattr(dnw, name), (dnw.Data, dnw.DnsError))}
+        kinds = {name for name in names - shown if not issubclass(getattr(dnw, name), (dnw.Data, dnw.OptionData, dnw.DnsError))}
         self.assertEqual(kinds, set())
 
     def test_the_version_is_the_one_of_the_package(self) -> None:
