@@ -85,6 +85,28 @@ const SIGNATURE: [Kind; 9] = [
     BASE64,
 ];
 
+/// The fields of TKEY.
+const SHARED_KEY: [Kind; 7] = [
+    PLAIN,
+    Kind::Time,
+    Kind::Time,
+    Kind::U16,
+    Kind::U16,
+    LONG,
+    LONG,
+];
+
+/// The fields of TSIG.
+const MESSAGE_SIGNATURE: [Kind; 7] = [
+    PLAIN,
+    Kind::LongTime,
+    Kind::U16,
+    LONG,
+    Kind::U16,
+    Kind::U16,
+    LONG,
+];
+
 /// The code of A6.
 const A6: u16 = 38;
 
@@ -262,26 +284,8 @@ fn late_fields_of(code: u16) -> &'static [Kind]
         107 => &[Kind::U16, PLAIN], // LP
         108 => &[Kind::U48], // EUI48
         109 => &[Kind::U64], // EUI64
-        // TKEY
-        249 => &[
-            PLAIN,
-            Kind::Time,
-            Kind::Time,
-            Kind::U16,
-            Kind::U16,
-            LONG,
-            LONG,
-        ],
-        // TSIG
-        250 => &[
-            PLAIN,
-            Kind::LongTime,
-            Kind::U16,
-            LONG,
-            Kind::U16,
-            Kind::U16,
-            LONG,
-        ],
+        249 => &SHARED_KEY, // TKEY
+        250 => &MESSAGE_SIGNATURE, // TSIG
         256 => &[Kind::U16, Kind::U16, VALUE], // URI
         257 => &[Kind::U8, TAG, VALUE], // CAA
         258 => &[TEXTS], // AVC
