@@ -10,7 +10,7 @@ use crate::edns::{EdnsError, EdnsRef, next_opt};
 use crate::error::{MessageError, MessageErrorKind, Section};
 use crate::header::Header;
 use crate::items::{Queries, Records};
-use crate::passing::{Known, pass_section};
+use crate::passing::{Known, Walk, pass_section};
 use crate::response_code::ResponseCode;
 use dnw_base::decoder::BinDecoder;
 use dnw_base::error::DecodeError;
@@ -82,46 +82,25 @@ impl<'m> MessageRef<'m> {
     {
         let header = read_header(octets)?;
         let counts = header.counts;
-        let (mut left, mut known) = (max_pointers, Known::NONE);
-        let mut reader = reader_at(octets, Header::LEN);
-        pass_section(
-            &mut reader,
-            Section::Queries,
-            counts.queries,
-            &mut left,
-            &mut known,
-        )?;
-        let answers = reader.index();
-        let in_answers = pass_section(
-            &mut reader,
-            Section::Answers,
-            counts.answers,
-            &mut left,
-            &mut known,
-        )?;
-        let authorities = reader.index();
-        let in_authorities = pass_section(
-            &mut reader,
-            Section::Authorities,
-            counts.authorities,
-            &mut left,
-            &mut known,
-        )?;
-        let additionals = reader.index();
-        let in_additionals = pass_section(
-            &mut reader,
-            Section::Additionals,
-            counts.additionals,
-            &mut left,
-            &mut known,
-        )?;
+        let mut walk = Walk {
+            reader: reader_at(octets, Header::LEN),
+            left: max_pointers,
+            known: Known::NONE,
+        };
+        pass_section(&mut walk, Section::Queries, counts.queries)?;
+        let answers = walk.reader.index();
+        let in_answers = pass_section(&mut walk, Section::Answers, counts.answers)?;
+        let authorities = walk.reader.index();
+        let in_authorities = pass_section(&mut walk, Section::Authorities, counts.authorities)?;
+        let additionals = walk.reader.index();
+        let in_additionals = pass_section(&mut walk, Section::Additionals, counts.additionals)?;
         Ok(MessageRef {
             message: octets,
             header,
             answers,
             authorities,
             additionals,
-            end: reader.index(),
+            end: walk.reader.index(),
             opt_outside: in_answers | in_authorities,
             opt_inside: in_additionals,
         })

@@ -40,23 +40,35 @@ impl Known {
     };
 }
 
+/// A walk over the items of a message: where it is, how many pointers its names may still follow, and which pointer is known.
+#[derive(Drop)]
+pub(crate) struct Walk<'m> {
+    pub(crate) reader: BinDecoder<'m>,
+    pub(crate) left: usize,
+    pub(crate) known: Known,
+}
+
 /// Moves past the items of a section, and returns `true` if an `OPT` record is among them. The pointers that their names follow
-/// are taken from those that are `left`.
+/// are taken from those that are left.
 pub(crate) fn pass_section(
-    reader: &mut BinDecoder<'_>,
+    walk: &mut Walk<'_>,
     section: Section,
     count: u16,
-    left: &mut usize,
-    known: &mut Known,
 ) -> Result<bool, MessageError>
-    requires { IsKnown reader.old.bytes reader.old.index known.old }
-    ensures known { OnOk result (IsKnown reader.new.bytes reader.new.index known.new) }
-    ensures ok { IfOk result (PassesItems section count reader.old reader.new left.old left.new) }
-    ensures err { IfErr result (FailsWithin reader.old.bytes reader.old.index (part section count) left.old) }
+    requires { IsKnown walk.old.reader.bytes walk.old.reader.index walk.old.known }
+    ensures known { OnOk result (IsKnown walk.new.reader.bytes walk.new.reader.index walk.new.known) }
+    ensures ok { IfOk result (PassesItems section count walk.old.reader walk.new.reader walk.old.left walk.new.left) }
+    ensures err { IfErr result (FailsWithin walk.old.reader.bytes walk.old.reader.index (part section count) walk.old.left) }
 {
     let mut found = false;
     for item in 0..count {
-        found |= pass_counted(reader, section, item, left, known)?;
+        found |= pass_counted(
+            &mut walk.reader,
+            section,
+            item,
+            &mut walk.left,
+            &mut walk.known,
+        )?;
     }
     Ok(found)
 }

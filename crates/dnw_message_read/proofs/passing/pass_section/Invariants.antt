@@ -3,4 +3,4 @@ use Rattle.dnw_message_read.proofs.passing.pass_section.Given as goal
 
 abbrev pub invariant-loop-item : goal.invariant-loop-item
 invariant-loop-item l =
-    PassesItems l.fn.section l.item l.fn.reader l.reader l.fn.left l.left l.found × IsKnown l.reader.bytes l.reader.index l.known
+    PassesItems l.fn.section l.item l.fn.walk.reader l.walk.reader l.fn.walk.left l.walk.left l.found × IsKnown l.walk.reader.bytes l.walk.reader.index l.walk.known
