@@ -1,17 +1,23 @@
 -- How far data and records go, and that parts leave the modes.
-use Rattle.std.proofs.Common.{◌≡◌, ℕ, ◌+◌, ◌-◌, ◌≤◌, Bool, List, [], ◌∷◌, ◌++◌, length, Option, Some, None, Ok, Err, refl, sym, ap, ◌∙◌, subst, ⊎_elim, arith}
+use Rattle.std.proofs.Common.{◌≡◌, ℕ, ◌+◌, ◌-◌, ◌≤◌, Bool, List, [], ◌∷◌, ◌++◌, length, Option, Some, None, Ok, Err, inl, inr, refl, sym, ap, ◌∙◌, subst, ⊎_elim, arith}
 use Rattle.std.proofs.lemmas.List.{length-append}
-use Rattle.dnw_base.specs.Names.{wire}
+use Rattle.dnw_base.specs.Decoder.{Decoder}
+use Rattle.dnw_base.specs.Names.{NameValue, wire}
 use Rattle.dnw_base.proofs.Wires.{length_wire}
 use Rattle.dnw_write.specs.declared.encoder.modes.NameEncoding.{NameEncoding}
 use Rattle.std.specs.Int.{w16, to_be_bytes}
 use Rattle.dnw_base.specs.declared.error.ProtoError.TheVariants.{MaxBufferSizeExceeded, Memory}
 use Rattle.dnw_write.specs.Encoder.{Encoder, HasRoom, Writes, moved_to, reserved, written}
 use Rattle.dnw_write.specs.Emitting.{EmitsAt, Outcome}
-use Rattle.dnw_write.specs.EmittedName.{EmitsAs, Share, in_mode}
-use Rattle.dnw_record.specs.Parts.{EmitsSized, EmitsWirePart, EmitsWireParts, WirePart, Write, bytes_part, name_part, text_part}
-use Rattle.dnw_record.proofs.Parts.{EndsWithin, Fits, fits_as, fits_bytes, fits_name, fits_name_part, fits-sized, fits-then}
+use Rattle.dnw_write.specs.EmittedName.{EmitsAs, EmitsName, Share, in_mode}
+use Rattle.dnw_record.specs.Parts.{EmitsSized, EmitsWirePart, EmitsWireParts, Then, WirePart, Write, bytes_part, name_part, text_part}
+use Rattle.dnw_record.specs.Inside.Going.{WritesOn}
+use Rattle.dnw_record.specs.Inside.Walking.{EmitsPieces}
+use Rattle.dnw_record.specs.WrittenRecords.{EmitsData, EmitsWhole, InOrder}
+use Rattle.dnw_record.proofs.Parts.{EndsWithin, Fits, fits_as, fits_bytes, fits_data, fits_name, fits_name_part, fits-sized, fits-then, refused_room}
+use Rattle.dnw_data.specs.declared.kind.Kind.{Kind}
 use Rattle.dnw_record.specs.declared.record.Record.{Record}
+use Rattle.dnw_record.specs.declared.wire_record.WireData.{WireData}
 use Rattle.dnw_record.specs.DataPieces.{DataPiece, DataValue, HasPieces, data_kinds, name_piece, octets_of, octets_piece}
 use Rattle.dnw_record.specs.AnyRecordLaws.{any_record_size}
 use Rattle.dnw_record.specs.AnyRecords.{EmitsRData, EmitsAnyFields, mode_of, name_of, parts_after, parts_of, type_class_ttl}
@@ -50,12 +56,52 @@ pub fits_fields : (r : Record) → Fits (any_record_size r) (EmitsAnyFields r)
 fits_fields r =
     fits_as (omega arith) (fits-then (fits_name r.name) (fits-then (fits_bytes (type_class_ttl r)) (fits-sized (fits_rdata r.data))))
 
-abbrev pub GoesOn : Write → Type 0
-GoesOn write = (v : Encoder) (outcome : Outcome) (w : Encoder) → write v outcome w → v.offset ≤ w.offset
+-- ---- writes go on
 
-pub on_fields : (r : Record) → GoesOn (EmitsAnyFields r)
-on_fields r v (Ok tt) w h = ((fits_fields r).done v w h).3
-on_fields r v (Err error) w h = ((fits_fields r).refused v w error h).0
+-- a write that fits some number of octets
+fits_on : {n : ℕ} {write : Write} → Fits n write → WritesOn write
+fits_on fits v (Ok tt) w h = let (_, within, same, on) = fits.done v w h in (on, omega (arith, within, same))
+fits_on fits v (Err error) w h = ((fits.refused v w error h).0, tt)
+
+pub name_on : (name : NameValue) → WritesOn (EmitsName name)
+name_on name = fits_on (fits_name name)
+
+pub wire_data_on : (rdata : WireData) → WritesOn (EmitsData rdata)
+wire_data_on rdata = fits_on (fits_data rdata)
+
+pub rdata_on : (x : DataValue) → WritesOn (EmitsRData x)
+rdata_on x = fits_on (fits_rdata x)
+
+pub pieces_on : (kinds : List Kind) (start : Decoder) → WritesOn (EmitsPieces kinds start)
+pieces_on kinds start v outcome w (pieces, _, h) = fits_on (fits_parts [] pieces v.encoding v.canonical) v outcome w h
+
+then_on : (first second : Write) → WritesOn first → WritesOn second → WritesOn (Then first second)
+then_on first second one two v (Ok tt) w (m, f, s) =
+    let (on, _) = one v (Ok tt) m f in
+    let (more, within) = two m (Ok tt) w s in
+    (omega (arith, on, more), within)
+then_on first second one two v (Err error) w (inl f) = one v (Err error) w f
+then_on first second one two v (Err error) w (inr (m, f, s)) =
+    let (on, _) = one v (Ok tt) m f in
+    let (more, _) = two m (Err error) w s in
+    (omega (arith, on, more), tt)
+
+sized_on : (write : Write) → WritesOn write → WritesOn (EmitsSized write)
+sized_on write goes v (Ok tt) w (room, u, h, is) =
+    let (on, within) = goes (reserved v 2) (Ok tt) u h in
+    subst (λ (x : Encoder). (v.offset ≤ x.offset) × (x.offset ≤ x.max_size)) (sym is) (omega (arith, on), within)
+sized_on write goes v (Err error) w (inl h) =
+    let (same, _) = refused_room v (reserved v 2) w 2 error h in (omega (arith, ap (λ (x : Encoder). x.offset) same), tt)
+sized_on write goes v (Err error) w (inr (room, h)) = let (on, _) = goes (reserved v 2) (Err error) w h in (omega (arith, on), tt)
+
+pub order_on : (first : Write) (fixed : List ℕ) (last : Write) → WritesOn first → WritesOn last → WritesOn (InOrder first fixed last)
+order_on first fixed last one two = then_on first _ one (then_on (λ v. Writes v fixed) _ (fits_on (fits_bytes fixed)) (sized_on last two))
+
+-- the numbers before octets that are written fit their fields
+pub fitting : (Fit : Type 0) (fields : Write) (v : Encoder) (outcome : Outcome) (w : Encoder) → Fit → EmitsWhole (Unit {0}) fields v outcome w
+    → EmitsWhole Fit fields v outcome w
+fitting Fit fields v (Ok tt) w fit h = (fit, h.1)
+fitting Fit fields v (Err error) w fit h = h
 
 -- ---- modes
 

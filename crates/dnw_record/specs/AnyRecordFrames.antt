@@ -1,13 +1,16 @@
 -- Writing a record of any type keeps the frame of `emit`.
 use Rattle.std.proofs.Common.{◌≡◌, List, [], ◌∷◌, length, Ok, Err, inl, inr, sym, subst}
+use Rattle.dnw_base.specs.Decoder.{Decoder}
 use Rattle.dnw_write.specs.Encoder.{Encoder}
 use Rattle.dnw_write.specs.Emitting.{Outcome, Frame}
 use Rattle.dnw_write.specs.EmittingLaws.{frame_same, frames_follow}
+use Rattle.dnw_data.specs.declared.kind.Kind.{Kind}
 use Rattle.dnw_record.specs.Records.{RecordValue}
 use Rattle.dnw_record.specs.Parts.{EmitsWireParts, WirePart}
 use Rattle.dnw_record.specs.RecordFrames.{KeepsFrame, frame_in_order, frame_whole, frame_wire_part}
 use Rattle.dnw_record.specs.declared.record.Record.{Record}
 use Rattle.dnw_record.specs.DataPieces.{DataValue}
+use Rattle.dnw_record.specs.Inside.Walking.{EmitsPieces}
 use Rattle.dnw_record.specs.AnyRecords.{AnyNumbersFit, EmitsAnyFields, EmitsAnyRecord, EmitsCopyOf, EmitsRData, parts_of, type_class_ttl}
 
 pub frame_parts : (parts : List WirePart) → KeepsFrame (EmitsWireParts parts)
@@ -23,6 +26,9 @@ frame_parts (part ∷ parts) v (Err error) w e (inr (m, one, more)) =
 
 pub frame_rdata : (x : DataValue) → KeepsFrame (EmitsRData x)
 frame_rdata x v outcome w e (pieces, has, h) = frame_parts (parts_of pieces v.encoding v.canonical) v outcome w e h
+
+pub frame_pieces : (kinds : List Kind) (start : Decoder) → KeepsFrame (EmitsPieces kinds start)
+frame_pieces kinds start v outcome w e (pieces, _, h) = frame_parts (parts_of pieces v.encoding v.canonical) v outcome w e h
 
 pub frame_any_fields : (r : Record) → KeepsFrame (EmitsAnyFields r)
 frame_any_fields r = frame_in_order r.name (type_class_ttl r) (EmitsRData r.data) (frame_rdata r.data)

@@ -43,9 +43,13 @@ fixed_octets record_type class ttl = to_be_bytes w16 (type_code record_type) ++ 
 abbrev pub FixedFit : RecordType → DNSClass → ℕ → Type 0
 FixedFit record_type class ttl = (type_code record_type < 2 ^ 16) × (class_code class < 2 ^ 16) × (ttl < 2 ^ 32)
 
+-- One write is done, then octets are written, and then what another write makes, after its length.
+abbrev pub InOrder : Write → List ℕ → Write → Write
+InOrder first fixed last = Then first (Then (λ v. Writes v fixed) (EmitsSized last))
+
 -- The owner is written, then the type, the class and the time to live, and then data after their length.
 abbrev pub EmitsInOrder : NameValue → List ℕ → Write → Write
-EmitsInOrder owner fixed write = Then (EmitsName owner) (Then (λ v. Writes v fixed) (EmitsSized write))
+EmitsInOrder owner fixed write = InOrder (EmitsName owner) fixed write
 
 -- Fields that fit are written whole, or undone whole: then the encoder is back at its checkpoint, whichever failed.
 abbrev pub EmitsWhole : Type 0 → Write → Write

@@ -1,13 +1,13 @@
 //! Records of a message that can be written into another one.
 ghost use Rattle.std.specs.Prelude.{◌≡◌, ℕ, List, [], IfErr, OnOk};
-ghost use Rattle.dnw_write.specs.EncoderValue.{value, lender};
 ghost use Rattle.dnw_record.specs.declared.rdata.RDataError.{RDataError};
 ghost use Rattle.dnw_record.specs.DataCopies.{Copies, FailsToCopy, data_start, record_kinds};
-ghost use Rattle.dnw_record.specs.AnyRecords.{AnyNumbersFit, EmitsCopyOf, HasFields};
-ghost use Rattle.dnw_record.specs.AnyRecordFrames.{frame_copy};
-ghost use Rattle.dnw_record.specs.Inside.Walking.{EmitsFieldsOf, copy_with};
+ghost use Rattle.dnw_record.specs.AnyRecords.{EmitsCopyOf, HasFields};
+ghost use Rattle.dnw_record.specs.AnyRecordFrames.{frame_copy, frame_pieces};
+ghost use Rattle.dnw_record.specs.Inside.Walking.{EmitsPieces};
 
-use crate::record::{emit_sized, fixed_octets};
+use crate::emitting::{emit_record, fixed_octets};
+use crate::record::emit_data;
 use crate::record_ref::RecordRef;
 use dnw_base::decoder::BinDecoder;
 use dnw_base::error::{DecodeError, ProtoResult};
@@ -64,12 +64,27 @@ impl BinEncodable for CheckedRecord<'_> {
 
     /// Writes the record as `Record` does. If a field fails, the encoder is put back to where it was.
     fn emit(&self, encoder: &mut BinEncoder<'_>) -> ProtoResult<()> {
-        let checkpoint = encoder.checkpoint();
-        let outcome = emit_fields(&self.item, encoder);
-        if outcome.is_err() {
-            encoder.rewind(checkpoint);
-        }
-        outcome
+        let item = &self.item;
+        let fixed = fixed_octets(item.record_type(), item.class(), item.ttl());
+        emit_record(item.owner(), &fixed, &CheckedData { of: self }, encoder)
+    }
+}
+
+/// The data of a record.
+#[derive(Drop)]
+struct CheckedData<'r> {
+    of: &'r CheckedRecord<'r>,
+}
+
+impl BinEncodable for CheckedData<'_> {
+    ghost emits = { λ x. EmitsPieces (record_kinds x.of.now) (data_start x.of.now) };
+
+    ghost keeps_frame = { λ x. frame_pieces (record_kinds x.of.now) (data_start x.of.now) };
+
+    fn emit(&self, encoder: &mut BinEncoder<'_>) -> ProtoResult<()> {
+        let checked = self.of;
+        let item = &checked.item;
+        emit_data(item.data_decoder(), item.kinds(), encoder)
     }
 }
 
@@ -99,17 +114,4 @@ fn check_fields(start: BinDecoder<'_>, kinds: &[Kind]) -> Result<(), FieldError>
         return Err(FieldError { field, cause });
     }
     Ok(())
-}
-
-/// Writes the fields of a record in turn, up to the first that fails.
-fn emit_fields(item: &RecordRef<'_>, encoder: &mut BinEncoder<'_>) -> ProtoResult<()>
-    requires { HasFields item.now }
-    ensures writes { EmitsFieldsOf item.now (value encoder.old) result (value encoder.new) }
-    ensures fit { OnOk result (AnyNumbersFit (copy_with item.now [])) }
-    ensures lender { lender encoder.new ≡ lender encoder.old }
-{
-    let record_type = item.record_type();
-    item.owner().emit(encoder)?;
-    encoder.emit_vec(&fixed_octets(record_type, item.class(), item.ttl()))?;
-    emit_sized(item.data_decoder(), item.kinds(), encoder)
 }

@@ -6,6 +6,7 @@
 
 pub mod checked;
 mod conversions;
+mod emitting;
 pub mod from_fields;
 pub mod laws;
 pub mod rdata;

@@ -1,23 +1,22 @@
 //! Records of any type, which are written into messages.
-ghost use Rattle.std.specs.Prelude.{◌≡◌, [], ◌∷◌, false, IfNone, IfSome, OnOk};
+ghost use Rattle.std.specs.Prelude.{◌≡◌, [], ◌∷◌, false, IfNone, IfSome};
 ghost use Rattle.std.specs.List.{list_any};
 ghost use Rattle.dnw_base.specs.Decoder.{Decoder};
 ghost use Rattle.dnw_write.specs.EncoderValue.{value, lender};
-ghost use Rattle.dnw_record.specs.Parts.{EmitsSized, EmitsWirePart, EmitsWireParts, bytes_part, name_part};
+ghost use Rattle.dnw_record.specs.Parts.{EmitsWirePart, EmitsWireParts, bytes_part, name_part};
 ghost use Rattle.dnw_record.specs.Inside.Copying.{IsNoName};
 ghost use Rattle.dnw_record.specs.Inside.Walking.{EmitsPieces, IsReadable, is_name};
 ghost use Rattle.dnw_record.specs.DataCopies.{TakesOwnPiece};
 ghost use Rattle.dnw_record.specs.DataPieces.{DataPiece};
-ghost use Rattle.dnw_record.specs.AnyRecords.{EmitsRData, EmitsAnyFields, EmitsAnyRecord, AnyNumbersFit, encoding_of, mode_of, name_of};
-ghost use Rattle.dnw_record.specs.WrittenRecords.{FixedFit, fixed_octets};
+ghost use Rattle.dnw_record.specs.AnyRecords.{EmitsRData, EmitsAnyRecord, encoding_of, mode_of, name_of};
 ghost use Rattle.dnw_record.specs.AnyRecordFrames.{frame_any_record, frame_rdata};
 
+use crate::emitting::{emit_record, fixed_octets};
 use crate::rdata::{RData, RDataError};
 use crate::record_ref::RecordRef;
 use dnw_base::decoder::BinDecoder;
 use dnw_base::dns_class::DNSClass;
 use dnw_base::error::ProtoResult;
-use dnw_base::record_type::RecordType;
 use dnw_data::field::Field;
 use dnw_data::kind::{Kind, NameForm};
 use dnw_data::table;
@@ -81,12 +80,9 @@ impl BinEncodable for Record {
     /// Names in the data are written as the table says: compressed if the encoder's mode compresses and the type is one of
     /// RFC 1035 (RFC 3597, section 4), and in canonical form in lower case (RFC 4034, section 6.2, and RFC 6840, section 5.1).
     fn emit(&self, encoder: &mut BinEncoder<'_>) -> ProtoResult<()> {
-        let checkpoint = encoder.checkpoint();
-        let outcome = emit_fields(self, encoder);
-        if outcome.is_err() {
-            encoder.rewind(checkpoint);
-        }
-        outcome
+        let data = &self.data;
+        let fixed = fixed_octets(data.record_type(), data.class(), self.ttl);
+        emit_record(&self.name, &fixed, data, encoder)
     }
 }
 
@@ -104,57 +100,13 @@ impl BinEncodable for RData {
     }
 }
 
-/// Writes the fields of a record in turn, up to the first that fails.
-fn emit_fields(item: &Record, encoder: &mut BinEncoder<'_>) -> ProtoResult<()>
-    ensures writes { EmitsAnyFields item.now (value encoder.old) result (value encoder.new) }
-    ensures fit { OnOk result (AnyNumbersFit item.now) }
-    ensures lender { lender encoder.new ≡ lender encoder.old }
-{
-    let class = item.data.class();
-    let record_type = item.data.record_type();
-    let octets = item.data.octets();
-    item.name.emit(encoder)?;
-    encoder.emit_vec(&fixed_octets(record_type, class, item.ttl))?;
-    let start = BinDecoder::new(octets);
-    emit_sized(start, table::fields_of(class, record_type, octets), encoder)
-}
-
-/// Returns the type, the class and the time to live, as they are written.
-#[inline(always)]
-pub(crate) fn fixed_octets(record_type: RecordType, class: DNSClass, ttl: u32) -> [u8; 8]
-    ensures octets { result ≡ fixed_octets record_type class ttl }
-    ensures fit { FixedFit record_type class ttl }
-{
-    let code = u16::to_be_bytes(u16::from(record_type));
-    let class = u16::to_be_bytes(u16::from(class));
-    let ttl = u32::to_be_bytes(ttl);
-    [
-        code[0], code[1], class[0], class[1], ttl[0], ttl[1], ttl[2], ttl[3],
-    ]
-}
-
-/// Writes fields of these kinds, which are read from `start` up to the end, after the number of their octets.
-pub(crate) fn emit_sized(
+/// Writes fields of these kinds, which are read from `start` up to the end: each name in its mode, and all octets from one
+/// name to the next at once.
+pub(crate) fn emit_data(
     start: BinDecoder<'_>,
     kinds: &[Kind],
     encoder: &mut BinEncoder<'_>,
 ) -> ProtoResult<()>
-    requires { IsReadable kinds.now start }
-    ensures writes { EmitsSized (EmitsPieces kinds.now start.entry) (value encoder.old) result (value encoder.new) }
-    ensures lender { lender encoder.new ≡ lender encoder.old }
-{
-    let place = encoder.place::<u16>()?;
-    emit_data(start, kinds, encoder)?;
-    let most = encoder.max_size();
-    let len = encoder.len_since_place(&place);
-    // No write ends past the maximum, so two octets hold the length.
-    prove!(len <= most as usize);
-    encoder.emit_at(place, len as u16)
-}
-
-/// Writes fields of these kinds, which are read from `start` up to the end: each name in its mode, and all octets from one
-/// name to the next at once.
-fn emit_data(start: BinDecoder<'_>, kinds: &[Kind], encoder: &mut BinEncoder<'_>) -> ProtoResult<()>
     requires { IsReadable kinds.now start }
     ensures writes { EmitsPieces kinds.now start.entry (value encoder.old) result (value encoder.new) }
     ensures lender { lender encoder.new ≡ lender encoder.old }

@@ -1,12 +1,11 @@
 //! Records whose data are bytes or one name, as they are written (RFC 1035, section 4.1.3).
-ghost use Rattle.std.specs.Prelude.{◌≡◌, OnOk};
+ghost use Rattle.std.specs.Prelude.{◌≡◌};
 ghost use Rattle.dnw_write.specs.Encoder.{mode_of_rdata};
 ghost use Rattle.dnw_write.specs.EncoderValue.{value, lender};
-ghost use Rattle.dnw_record.specs.WrittenRecords.{EmitsData, EmitsDataName, EmitsFields, EmitsRecord, NumbersFit};
-ghost use Rattle.dnw_record.specs.Parts.{EmitsSized};
+ghost use Rattle.dnw_record.specs.WrittenRecords.{EmitsData, EmitsDataName, EmitsRecord};
 ghost use Rattle.dnw_record.specs.RecordFrames.{frame_data, frame_record};
 
-use crate::record::fixed_octets;
+use crate::emitting::{emit_record, fixed_octets};
 use dnw_base::dns_class::DNSClass;
 use dnw_base::error::ProtoResult;
 use dnw_base::record_type::RecordType;
@@ -68,38 +67,9 @@ impl BinEncodable for WireRecord {
     /// Writes the owner, the type, the class, the time to live, the length and the data. If one of them fails, the encoder
     /// is put back to where it was.
     fn emit(&self, encoder: &mut BinEncoder<'_>) -> ProtoResult<()> {
-        let checkpoint = encoder.checkpoint();
-        let outcome = emit_fields(self, encoder);
-        if outcome.is_err() {
-            encoder.rewind(checkpoint);
-        }
-        outcome
+        let fixed = fixed_octets(self.record_type, self.class, self.ttl);
+        emit_record(&self.owner, &fixed, &self.rdata, encoder)
     }
-}
-
-/// Writes the fields of a record in turn, up to the first that fails.
-fn emit_fields(item: &WireRecord, encoder: &mut BinEncoder<'_>) -> ProtoResult<()>
-    ensures writes { EmitsFields item.now (value encoder.old) result (value encoder.new) }
-    ensures fit { OnOk result (NumbersFit item.now) }
-    ensures lender { lender encoder.new ≡ lender encoder.old }
-{
-    item.owner.emit(encoder)?;
-    encoder.emit_vec(&fixed_octets(item.record_type, item.class, item.ttl))?;
-    emit_sized(&item.rdata, encoder)
-}
-
-/// Writes data after their length.
-fn emit_sized(rdata: &WireData, encoder: &mut BinEncoder<'_>) -> ProtoResult<()>
-    ensures writes { EmitsSized (EmitsData rdata.now) (value encoder.old) result (value encoder.new) }
-    ensures lender { lender encoder.new ≡ lender encoder.old }
-{
-    let place = encoder.place::<u16>()?;
-    rdata.emit(encoder)?;
-    let most = encoder.max_size();
-    let len = encoder.len_since_place(&place);
-    // No write ends past the maximum, so two octets hold the length.
-    prove!(len <= most as usize);
-    encoder.emit_at(place, len as u16)
 }
 
 /// Writes a name in the mode for such data, and puts the former mode back in any case.

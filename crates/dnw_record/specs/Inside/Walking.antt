@@ -9,8 +9,8 @@ use Rattle.dnw_record.specs.Parts.{EmitsWireParts, Write}
 use Rattle.dnw_record.specs.Records.{RecordValue}
 use Rattle.dnw_record.specs.declared.record.Record.{Record}
 use Rattle.dnw_record.specs.DataPieces.{DataPiece}
-use Rattle.dnw_record.specs.DataCopies.{Copies, TakesPieces, data_start, record_kinds}
-use Rattle.dnw_record.specs.AnyRecords.{EmitsAnyFields, name_of, parts_after, parts_of}
+use Rattle.dnw_record.specs.DataCopies.{TakesPieces}
+use Rattle.dnw_record.specs.AnyRecords.{name_of, parts_after, parts_of}
 
 abbrev pub is_name : Kind → Bool
 is_name (Name form) = true
@@ -44,8 +44,3 @@ copy_with x octets = record {
   ttl = x.ttl;
   «data» = record { class = x.class; record_type = x.record_type; octets = octets };
 }
-
--- The fields of a record of a message are written as those of its copy are.
-abbrev pub EmitsFieldsOf : RecordValue → Write
-EmitsFieldsOf x v outcome w =
-    (octets : List ℕ) × Copies (record_kinds x) (data_start x) octets × EmitsAnyFields (copy_with x octets) v outcome w

@@ -1,21 +1,18 @@
-use Rattle.std.proofs.Common.{sym, ◌∙◌, ap, arith}
 use Rattle.dnw_write.specs.EncoderValue.{value}
-use Rattle.dnw_write.specs.Checkpoints.{rewound}
-use Rattle.dnw_record.proofs.WrittenCopies.{done, on_fields_of, undone}
+use Rattle.dnw_record.specs.AnyRecords.{name_of}
+use Rattle.dnw_record.specs.DataCopies.{data_start, record_kinds}
+use Rattle.dnw_record.proofs.Going.{name_on, pieces_on}
+use Rattle.dnw_record.proofs.WrittenCopies.{as_copy}
 use Rattle.dnw_record.proofs.checked.CheckedRecordBinEncodable.emit.Goals as goal
 
-pub rewind-requires : goal.rewind-requires
-rewind-requires c =
-    let on = on_fields_of c.self.inside.item (value c.args.encoder.now) c.emit_fields-outcome.result (value c.emit_fields-outcome.new.encoder) c.emit_fields-outcome.ensures.writes in
-    record { within = omega (arith, on, c.emit_fields-outcome.new.encoder.within, ap (λ m. m.offset) c.checkpoint-checkpoint.ensures) }
+pub emit_record-requires-clause-owner : goal.emit_record-requires-clause-owner
+emit_record-requires-clause-owner c = name_on (name_of c.owner.result.now)
 
-pub returns-then-is_err-clause-emits : goal.returns-then-is_err-clause-emits
-returns-then-is_err-clause-emits c =
-    rw (← c.self.view_is) (undone c.self.inside.item (value c.args.encoder.now) (value c.emit_fields-outcome.new.encoder) _ c.emit_fields-outcome.result
-    c.emit_fields-outcome.ensures.writes (sym c.is_err.ensures.value ∙ c.if-is_err.true)
-    (c.rewind.ensures.value ∙ ap (rewound (value c.emit_fields-outcome.new.encoder)) c.checkpoint-checkpoint.ensures))
+pub emit_record-requires-clause-rdata : goal.emit_record-requires-clause-rdata
+emit_record-requires-clause-rdata c = pieces_on (record_kinds c.args.self.now) (data_start c.args.self.now)
 
-pub returns-else-is_err-clause-emits : goal.returns-else-is_err-clause-emits
-returns-else-is_err-clause-emits c =
-    rw (← c.self.view_is) (done c.self.inside.item (value c.args.encoder.now) (value c.emit_fields-outcome.new.encoder) c.emit_fields-outcome.result
-    c.emit_fields-outcome.ensures.writes (sym c.is_err.ensures.value ∙ c.if-is_err.false) c.emit_fields-outcome.ensures.fit)
+pub returns-clause-emits : goal.returns-clause-emits
+returns-clause-emits c =
+    as_copy c.args.self.now (rw c.self.view_is at c.self.invariant) (value c.args.encoder.now) c.emit_record.result (value c.emit_record.new.encoder)
+    (rw (c.record_type.ensures, c.class.ensures, c.ttl.ensures, c.self.view_is) at c.fixed_octets-fixed.ensures.fit)
+    (rw (c.owner.ensures, c.fixed_octets-fixed.ensures.octets, c.record_type.ensures, c.class.ensures, c.ttl.ensures, c.self.view_is) at c.emit_record.ensures.writes)
