@@ -194,7 +194,7 @@ static void print_shape(const struct shape *shape)
     }
 }
 
-/* Climbs from shapes by chance and from the best, after some changes, by the least of three readings. What was good for nothing for a
+/* Climbs from random shapes and from the best, after some changes, by the least of three readings. What was good for nothing for a
    while is left for another start. */
 static long explore(struct shape *best, size_t limit, double until)
 {

@@ -440,7 +440,7 @@ static void mutate(int *genes, int changes)
     }
 }
 
-/* Climbs from the best, or from programs by chance if nothing was gained for a while. */
+/* Climbs from the best, or from random programs if nothing was gained for a while. */
 static double climb(const struct call *call, int *best, int tries)
 {
     int here[GENES], next[GENES];
@@ -470,7 +470,7 @@ static double climb(const struct call *call, int *best, int tries)
     return most;
 }
 
-/* A program by chance. */
+/* A random program. */
 static void begin(int *genes)
 {
     for (int gene = 0; gene < GENES; gene++) {
@@ -500,7 +500,7 @@ static void begin_chain(enum domain domain, int *genes, int n)
         memcpy(genes + 2 * (1 + 4 * STEPS), named, sizeof named);
 }
 
-/* The best of some programs by chance, and of those that make a chain. */
+/* The best of some random programs, and of those that make a chain. */
 static void best_start(const struct call *call, int *best, int tries)
 {
     double most = 0;

@@ -1,6 +1,6 @@
 """Compares how texts of data are read with dnspython, BIND, Knot and NSD: `data_texts.py LIBRARY SCANNER [TEXTS [SEED [TYPE..]]]`.
 
-For each type, texts by chance: the fields of an example, with white space, quotes, escapes, units, comments, parentheses and mnemonics as a
+For each type, random texts: the fields of an example, with white space, quotes, escapes, units, comments, parentheses and mnemonics as a
 reader of master files may meet them, and each once more with one octet changed. Ours, dnspython and Knot's scanner read them, which SCANNER
 is: the same octets, or all refuse. Where they differ, `named-rrchecker` and `nsd-checkzone` are asked too, and ours must be as two of the four,
 or DIFFERENCES says why not. They are asked for some of the others as well. How often each came is printed."""

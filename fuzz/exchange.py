@@ -1,6 +1,6 @@
 """Exchanges whole messages with dnspython and ldns: `exchange.py LIBRARY [MESSAGES [SEED]]`.
 
-dnspython writes messages by chance: questions, records in all three sections, and EDNS with options. Ours reads each of them:
+dnspython writes random messages: questions, records in all three sections, and EDNS with options. Ours reads each of them:
 its header and counts, its questions, what it says by EDNS, and each record's owner, type, class, time to live and data, names
 whole; and, unless its names have odd octets, its text. All must be what dnspython reads in the same octets. Then ours writes the
 message again from what it has read, and packs the message itself, and dnspython and ldns must read the same in both.
@@ -44,7 +44,7 @@ OTHER_TEXTS = {24, 25}
 
 LABELS = [b"com", b"example", b"Example", b"www", b"net", b"a", b"b", b"_tcp", b"mail", b"host-7", b"xn--bcher-kva"]
 FLAGS = [dns.flags.QR, dns.flags.AA, dns.flags.TC, dns.flags.RD, dns.flags.RA, dns.flags.AD, dns.flags.CD]
-# The data of these types are names and numbers, which are made by chance: so many octets before, names, and octets after.
+# The data of these types are names and numbers, which are random: so many octets before, names, and octets after.
 NAMED = {"NS": (0, 1, 0), "CNAME": (0, 1, 0), "PTR": (0, 1, 0), "DNAME": (0, 1, 0), "MX": (2, 1, 0), "AFSDB": (2, 1, 0), "KX": (2, 1, 0),
          "SRV": (6, 1, 0), "SOA": (0, 2, 20), "RP": (0, 2, 0)}
 
@@ -270,7 +270,7 @@ def read_ldns(wire):
     return header, questions, sections, says
 
 
-# ---- messages by chance
+# ---- random messages
 
 def pool():
     """Data of many types, from the RFCs' examples in diff/lists/data_texts.txt, that dnspython reads and writes as the same."""
@@ -289,7 +289,7 @@ def pool():
     return list(found.values())
 
 
-def name_by_chance(earlier, is_plain):
+def random_name(earlier, is_plain):
     labels = []
     for _ in range(random.randrange(random.choice([3, 3, 3, 20]))):
         size = random.choice([3, 8, 63])
@@ -303,13 +303,13 @@ def name_by_chance(earlier, is_plain):
     return earlier[-1]
 
 
-def data_by_chance(earlier, is_plain, examples):
-    """Data of a type by chance."""
+def random_data(earlier, is_plain, examples):
+    """Random data of a type."""
     chance = random.random()
     if chance < 0.35:
         kind = random.choice(list(NAMED))
         before, names, after = NAMED[kind]
-        octets = random.randbytes(before) + b"".join(wire_of(name_by_chance(earlier, is_plain)) for _ in range(names)) + random.randbytes(after)
+        octets = random.randbytes(before) + b"".join(wire_of(random_name(earlier, is_plain)) for _ in range(names)) + random.randbytes(after)
     elif chance < 0.65:
         return random.choice(random.choice(examples))
     else:
@@ -321,7 +321,7 @@ def data_by_chance(earlier, is_plain, examples):
     return dns.rdata.from_wire(dns.rdataclass.IN, dns.rdatatype.from_text(kind), octets, 0, len(octets))
 
 
-def message_by_chance(number, examples):
+def random_message(number, examples):
     """A message, and whether its names are plain, so that both libraries have the same texts of them."""
     is_plain = random.random() < 0.8
     message, earlier = dns.message.Message(id=random.getrandbits(16)), []
@@ -336,13 +336,13 @@ def message_by_chance(number, examples):
         code = random.choice([code, code, random.randrange(4096)])
     message.set_rcode(code)
     for _ in range(random.choice([0, 1, 1, 1, 1, 1, 3])):
-        name = name_by_chance(earlier, is_plain)
+        name = random_name(earlier, is_plain)
         message.question.append(dns.rrset.RRset(name, dns.rdataclass.IN, random.choice([1, 2, 15, 16, 28, 255, 65280])))
     most = 150 if number % 50 == 0 else 6
     for section in message.sections[1:]:
         for _ in range(random.randint(0, most)):
-            owner, ttl = name_by_chance(earlier, is_plain), random.choice([0, 60, 86400, random.getrandbits(31)])
-            section.append(dns.rrset.from_rdata(owner, ttl, data_by_chance(earlier, is_plain, examples)))
+            owner, ttl = random_name(earlier, is_plain), random.choice([0, 60, 86400, random.getrandbits(31)])
+            section.append(dns.rrset.from_rdata(owner, ttl, random_data(earlier, is_plain, examples)))
     return message, is_plain
 
 
@@ -397,7 +397,7 @@ def main():
     random.seed(seed)
     examples, kinds, questions, records, lines, octets, again_octets = pool(), set(), 0, 0, 0, 0, 0
     for number in range(count):
-        message, is_plain = message_by_chance(number, examples)
+        message, is_plain = random_message(number, examples)
         wire = message.to_wire(max_size=65535)
         ours, theirs = read_ours(wire, is_plain), read_dnspython(wire, is_plain)
         check(without_opt(ours) == theirs, "read", *first_difference(without_opt(ours), theirs), wire.hex())

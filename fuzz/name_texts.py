@@ -1,7 +1,7 @@
 """Exchanges the texts of names with dnspython and BIND: `name_texts.py LIBRARY [NAMES [SEED]]`.
 
-Names by chance, of any octets, are printed by ours and read by dnspython, printed by dnspython and read by ours, and in a
-zone put through `named-checkzone -D`, which reads ours and prints its own. All must be the same octets. Texts by chance, of
+Random names, of any octets, are printed by ours and read by dnspython, printed by dnspython and read by ours, and in a
+zone put through `named-checkzone -D`, which reads ours and prints its own. All must be the same octets. Random texts, of
 what means something to a reader and with one octet changed, are read by ours and by dnspython, with and without an origin:
 the same octets, or both refuse; where they differ on purpose, DIFFERENCES says so, and how often is printed.
 """

@@ -1,6 +1,6 @@
 """Lets real clients ask the example server, and the example resolver ask real servers: network.py NAMES SERVE RESOLVE
 
-SERVE and RESOLVE are the words of the commands that start the two programs. A zone of so many names, with records by chance, is
+SERVE and RESOLVE are the words of the commands that start the two programs. A zone of so many names, with random records, is
 served on the loopback. dig, kdig and dnspython ask for each name: without EDNS, and with EDNS for 512 and for 1,232 octets. Each
 reply has no more octets than were asked for; it has TC if and only if records of the answer are missing; and with TC the client
 asks again over TCP, and then has all of them. nsd and named serve the same zone to the example resolver, which has to print the
@@ -54,7 +54,7 @@ def is_there(tool):
     return found
 
 
-def data_by_chance():
+def random_data():
     """The type of a set of records, and the texts of their data."""
     kind = random.choice(["A", "AAAA", "MX", "TXT", "SRV", "CAA", "PTR", "TYPE65280"])
     # Not more of texts, since a response has at most 65,535 octets.
@@ -72,14 +72,14 @@ def data_by_chance():
     return kind, sorted({texts() for _ in range(count)})
 
 
-def zone_by_chance(count):
+def random_zone(count):
     """The lines of a zone, and the names and types to ask for, with some that are not there."""
     lines, asked, names = list(HEAD), [], set()
     while len(names) < count:
         labels = [random.choice(LABELS) for _ in range(random.randrange(3))]
         name = ".".join([f"n{len(names)}", *labels, "example."])
         names.add(name)
-        kind, texts = ("CNAME", ["ns.example."]) if random.random() < 0.05 else data_by_chance()
+        kind, texts = ("CNAME", ["ns.example."]) if random.random() < 0.05 else random_data()
         lines += [f"{name} {random.randrange(1, 9999)} IN {kind} {text}" for text in texts]
         # The records of a set have one time to live (RFC 2181, section 5.2).
         ttl = lines[-len(texts)].split(" ")[1]
@@ -262,7 +262,7 @@ def check_server(tool, settings, resolve, lines, asked, answers):
 
 def main(count, serve, resolve):
     random.seed(1035)
-    lines, asked = zone_by_chance(int(count))
+    lines, asked = random_zone(int(count))
     answers = wanted(lines, asked)
     with tempfile.NamedTemporaryFile("w", suffix=".records") as file:
         file.write("\n".join(lines) + "\n")

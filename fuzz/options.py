@@ -1,6 +1,6 @@
 """Compares the texts of EDNS options with those of dig and dnspython: `options.py LIBRARY [MESSAGES [SEED]]`.
 
-A server on the loopback sends dig messages with up to five options: of dnspython, and octets by chance. dig and ours must show each
+A server on the loopback sends dig messages with up to five options: of dnspython, and random octets. dig and ours must show each
 option by the same line; where they differ on purpose, DIFFERENCES says so, and how often is printed. The address, prefixes, code, name
 and text in ours must be those that dnspython reads. A message that dig rejects is passed over, and counted.
 """
@@ -59,7 +59,7 @@ def check(fact, *what):
 
 
 def option():
-    """An option of dnspython, or octets by chance under a code that has a text, or under any."""
+    """An option of dnspython, or random octets under a code that has a text, or under any."""
     kind, octets = RNG.randrange(8), RNG.randbytes(RNG.randrange(20))
     if kind == 0:
         address = ".".join(str(RNG.randrange(256)) for _ in range(4))

@@ -1,6 +1,6 @@
 """Exchanges messages with dnspython and ldns: `readers.py LIBRARY [MESSAGES]`.
 
-Lists of names by chance are written by our library, and each name is read at its place by both. Packets with up to five
+Lists of random names are written by our library, and each name is read at its place by both. Packets with up to five
 questions, which are lists of names too, are read by both as packets. Packets of dnspython, with names in the data of
 records, are read by ours. Every name must be the same, octet for octet; without case in what dnspython wrote, since it
 compresses without case.
@@ -45,7 +45,7 @@ def form(labels):
     return b"".join(bytes([len(label)]) + label for label in labels)
 
 
-def name_by_chance(earlier):
+def random_name(earlier):
     """The labels of a name, with the empty one at its end; often one that ends as an earlier name does."""
     labels = []
     for _ in range(random.randrange(random.choice([3, 3, 3, 30]))):
@@ -56,10 +56,10 @@ def name_by_chance(earlier):
     return name if len(form(name)) <= 255 else end
 
 
-def names_by_chance(count):
+def random_names(count):
     names = []
     for _ in range(count):
-        names.append(name_by_chance(names))
+        names.append(random_name(names))
     return names
 
 
@@ -186,7 +186,7 @@ def main():
     random.seed(1035)
     messages, counts = int(sys.argv[2]) if len(sys.argv) > 2 else 10000, [0, 0, 0]
     for number in range(messages):
-        names = names_by_chance(random.randint(1, 200 if number % 50 == 0 else 20))
+        names = random_names(random.randint(1, 200 if number % 50 == 0 else 20))
         check_list(names)
         check_questions(names[:5])
         counts = [count + n for count, n in zip(counts, (len(names), len(names[:5]), check_packet(names)))]

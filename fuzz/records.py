@@ -1,6 +1,6 @@
 """Exchanges records of each type with dnspython and ldns, in octets and in text: `records.py LIBRARY [RECORDS [SEED [TYPE..]]]`.
 
-Data by chance of each type of docs/DATA.md, and of one that nobody knows, from the fields that stand there. Ours prints each record
+Random data of each type of docs/DATA.md, and of one that nobody knows, from the fields that stand there. Ours prints each record
 and parses the line as the same octets. Each of the others reads the octets and writes them again; its line is parsed by ours, and
 ours by it. All must be the same octets. Where another library has no text of a type, another one, or refuses data, DIFFERENCES
 says so, and how often is printed.
@@ -35,7 +35,7 @@ class Refused(Exception):
     """A library does not take octets or a text."""
 
 
-# ---- data by chance
+# ---- random data
 
 
 def one_of(*values):
@@ -131,7 +131,7 @@ def rest():
 
 
 def field(kind):
-    """A field by chance, as the words of docs/DATA.md have it."""
+    """A random field, as the words of docs/DATA.md have it."""
     if kind[0] == "u" and kind[1:].isdigit():
         return number(int(kind[1:]) // 8)
     if kind == "tag":
@@ -232,7 +232,7 @@ SHAPES = {
 
 
 class Sample:
-    """A record by chance: its type's code and name, its fields, its octets, and its line."""
+    """A random record: its type's code and name, its fields, its octets, and its line."""
 
     def __init__(self, code, kind, fields):
         self.code, self.kind = code, kind

@@ -24,7 +24,7 @@ import dns.rdatatype
 import dns.version
 
 from exchange import LDNS, read_dnspython, read_ldns
-from network import ORIGIN, record, running, zone_by_chance
+from network import ORIGIN, random_zone, record, running
 
 PAYLOAD, OPT, CNAME, ANY, IN = 1232, 41, 5, 255, 1
 NOERROR, FORMERR, NXDOMAIN, NOTIMP, REFUSED, BADVERS = 0, 1, 3, 4, 5, 16
@@ -151,7 +151,7 @@ def check_pair(zone, query, reply):
 
 def main(serve, asking, count=10_000_000, sample=100_000):
     random.seed(1035)
-    lines, asked = zone_by_chance(NAMES)
+    lines, asked = random_zone(NAMES)
     zone, own = Zone(lines), sorted(set(queries(asked)))
     started = time.monotonic()
     with tempfile.TemporaryDirectory(prefix="serving-") as folder:

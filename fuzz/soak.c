@@ -1,4 +1,4 @@
-/* A million messages through one process. Each is a list of names by chance that share suffixes; it is written, its names
+/* A million messages through one process. Each is a list of random names that share suffixes; it is written, its names
    are read back, and each is printed, parsed, compared and put in lower case. One allocation in a thousand is refused. Every
    answer must be the model's, or DNW_NO_MEMORY if an allocation was refused in that call. No call may leave a block, and
    after a tenth of the messages the process may grow by 64 KiB at most. After each 2,000 messages, names are read all over
@@ -67,7 +67,7 @@ static bool end(uint32_t answer, uint32_t wanted)
     return answer == DNW_DONE;
 }
 
-/* Adds a label of octets by chance, mostly letters, or one of a few, so that names share suffixes. */
+/* Adds a label of random octets, mostly letters, or one of a few, so that names share suffixes. */
 static void add_label(struct model_name *name)
 {
     static const char *const usual[] = {"com", "example", "www", "net", "EXAMPLE", "a", "b", "_tcp"};
@@ -89,7 +89,7 @@ static void add_label(struct model_name *name)
     name->len += 1 + len;
 }
 
-/* Makes a name by chance; often one that ends as an earlier one of its message does. */
+/* Makes a random name; often one that ends as an earlier one of its message does. */
 static void make_name(struct model_name *name, const struct model_name *earlier, size_t count)
 {
     name->len = 0;
@@ -176,7 +176,7 @@ static void check_message(void)
     CHECK(at == written.len);
 }
 
-/* Reads a message as long as they come, of labels, zero octets and pointers by chance, at each of its elements. */
+/* Reads a message as long as they come, of random labels, zero octets and pointers, at each of its elements. */
 static void check_long_message(void)
 {
     static uint8_t message[UINT16_MAX];

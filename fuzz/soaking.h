@@ -1,4 +1,4 @@
-/* What the soaks share: numbers by chance, and the memory of a process. */
+/* What the soaks share: random numbers, and the memory of a process. */
 #ifndef SOAKING_H
 #define SOAKING_H
 
@@ -9,7 +9,7 @@
 /* How many KiB a process may grow after a tenth of a soak. */
 enum { MAY_GROW = 64 };
 
-/* Numbers by chance, the same in each run (xorshift64*). */
+/* Random numbers, the same in each run (xorshift64*). */
 static uint64_t chance(uint64_t below)
 {
     static uint64_t state = 88172645463325252;

@@ -78,7 +78,7 @@ fn next(i: usize) -> String {
     format!("{}.example.org.", WORDS[(i + 1) / 2])
 }
 
-/// A hash of 20 octets, by chance, in base 32 with extended hex (RFC 5155, section 3.3), before the zone.
+/// A hash of 20 random octets in base 32 with extended hex (RFC 5155, section 3.3), before the zone.
 fn hashed(i: usize) -> String {
     let mut random = Random(i as u64);
     let digits = "0123456789abcdefghijklmnopqrstuv".as_bytes();

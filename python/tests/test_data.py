@@ -128,7 +128,7 @@ class ByChance(unittest.TestCase):
         except dnw.DnsError as error:
             return type(error), str(error)
 
-    def test_data_by_chance(self):
+    def test_random_data(self):
         counts = {True: 0, False: 0}
         for _ in range(1500):
             wire = self.message()
