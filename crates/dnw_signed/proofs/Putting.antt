@@ -1,23 +1,32 @@
 -- Fields are put into canonical form one by one, as a copy of them is made.
-use Rattle.std.proofs.Common.{◌≡◌, ℕ, List, [], ◌∷◌, ◌++◌, length, refl, sym, subst, ap, ◌∙◌, append_assoc, arith}
+use Rattle.std.proofs.Common.{◌≡◌, ℕ, ◌+◌, ◌-◌, ◌<◌, Some, None, List, [], ◌∷◌, ◌++◌, length, refl, sym, subst, ap, ◌∙◌, append_assoc, arith}
 use Rattle.std.proofs.lemmas.List.{append-nil, length-append, map-append}
 use Rattle.std.proofs.lemmas.List.Concat.{flat_map-append}
 use Rattle.dnw_base.proofs.Wires.{length_wire}
+use Rattle.dnw_base.specs.declared.error.DecodeError.TheVariants.{IncorrectRDataLengthRead}
 use Rattle.dnw_base.specs.Decoder.{Decoder}
 use Rattle.dnw_base.specs.Names.{lower}
+use Rattle.dnw_data.specs.declared.fields.FieldError.{FieldError}
 use Rattle.dnw_data.specs.declared.kind.Kind.{Kind}
 use Rattle.dnw_data.specs.declared.kind.NameForm.TheVariants.{Compressible, Lowered, Plain}
 use Rattle.dnw_data.specs.Walks.{IsAtEnd}
 use Rattle.dnw_name_form.proofs.LowerWires.{encoded_size_lower}
 use Rattle.dnw_record.specs.Records.{RecordValue}
-use Rattle.dnw_record.specs.DataCopies.{Copies, TakesPiece, alone, data_start, record_kinds}
+use Rattle.dnw_record.specs.DataCopies.{Copies, FailsPiece, TakesPiece, alone, data_start, record_kinds}
 use Rattle.dnw_record.specs.DataPieces.{DataPiece, DataValue, HasPieces, IsDataOfType, data_kinds, name_piece, octets_of, octets_piece, piece_octets}
 use Rattle.dnw_record.proofs.Alike.{copied_kinds}
 use Rattle.dnw_record.proofs.AnyRecords.{whole_pieces}
-use Rattle.dnw_record.proofs.Copying.{begins, goes-on}
+use Rattle.dnw_record.proofs.Copying.{begins, goes-on, left-over, stops}
 use Rattle.dnw_record.proofs.Pieces.{are_pieces, pieces_unique}
 use Rattle.dnw_signed.specs.CanonicalData.{IsCanonical, IsCanonicalOf, ReadsCanonical, canonical_piece, canonical_pieces}
-use Rattle.dnw_signed.specs.Inside.Putting.{IsPutting}
+use Rattle.dnw_record.specs.declared.rdata.RDataError.{RDataError}
+use Rattle.dnw_record.specs.declared.rdata.RDataError.TheVariants.{Field, Memory}
+use Rattle.dnw_signed.specs.DataPointers.{FieldFollows, TakesPointers, next_field, no_field, too_few}
+use Rattle.dnw_signed.specs.declared.error.CanonicalError.{CanonicalError}
+use Rattle.dnw_signed.specs.declared.error.CanonicalError.TheVariants as why
+use Rattle.dnw_signed.specs.Inside.Putting.{FailsFew, IsPutting, IsPuttingFew, of_data}
+use Rattle.dnw_signed.specs.Inside.Selecting.{FailsSelected}
+use Rattle.dnw_signed.proofs.Followed.{all_passed}
 
 module _ {kinds : List Kind} {start : Decoder} {before : List ℕ} where
   pub begins_putting : IsPutting kinds start before kinds start before
@@ -44,6 +53,63 @@ module _ {kinds : List Kind} {start : Decoder} {before : List ℕ} where
       → (more : List ℕ) × ReadsCanonical kinds start more × (octets ≡ before ++ more)
   all_put [] none c end = (octets_of (canonical_pieces c.done), (c.done, rw append-nil at (c.pieces [] end), refl), c.put)
   all_put (kind ∷ left) none c end = absurd (omega (arith, none))
+
+-- ---- few pointers
+
+module _ {kinds : List Kind} {start : Decoder} {most : ℕ} {before : List ℕ} where
+  pub begins_few : IsPuttingFew kinds start most before kinds start most before
+  begins_few = record { putting = begins_putting; taken = λ end h. h }
+
+  module _ {others : List Kind} {kind : Kind} {d : Decoder} {now : ℕ} {octets : List ℕ} (c : IsPuttingFew kinds start most before (kind ∷ others) d now octets) where
+    pub few_on : {after : Decoder} {longer : List ℕ} {rest : ℕ} (k : ℕ) (piece : DataPiece) → TakesPiece kind d piece after → FieldFollows kind d after k → rest + k ≡ now
+        → longer ≡ octets ++ piece_octets (canonical_piece piece) → IsPuttingFew kinds start most before others after rest longer
+    few_on {after} {rest = rest} k piece takes follows sum more_is =
+        record {
+          putting = puts_on c.putting piece takes more_is;
+          taken = λ end later. c.taken end (next_field kind others d after k now rest end follows sum later);
+        }
+
+    pub too_many : (after : Decoder) (k : ℕ) → FieldFollows kind d after k → now < k → TakesPointers kinds start most None
+    too_many after k follows less = c.taken None (too_few kind others d after k now follows less)
+
+    pub few_stop : {number : ℕ} (place : ℕ) (error : RDataError) → number ≡ length kinds - length (kind ∷ others) → FailsPiece kind number d error
+        → FailsFew kinds start most place (of_data place error)
+    few_stop place (Field error) is fails =
+        (refl, (now, c.taken (Some now) (no_field kind others d now (error.cause, fails.1)), stops c.putting.copying (Field error) is fails))
+    few_stop place Memory is fails = tt
+
+  module _ {d : Decoder} {now : ℕ} {octets : List ℕ} where
+    pub few_put : (left : List Kind) → length left ≡ 0 → IsPuttingFew kinds start most before left d now octets → IsAtEnd d
+        → (more : List ℕ) × TakesPointers kinds start most (Some now) × ReadsCanonical kinds start more × (octets ≡ before ++ more)
+    few_put left none c end =
+        let (more, reads, is) = all_put left none c.putting end in
+        (more, c.taken (Some now) (all_passed left d now none), reads, is)
+
+    pub few_left : (left : List Kind) → length left ≡ 0 → IsPuttingFew kinds start most before left d now octets → (¬ (IsAtEnd d)) → (place : ℕ) (error : FieldError)
+        → error.field ≡ length kinds → error.cause ≡ IncorrectRDataLengthRead (d.index - start.index) (length d.bytes - start.index)
+        → FailsFew kinds start most place (why.Field place error)
+    few_left left none c more place error field_is cause_is =
+        (refl, (now, c.taken (Some now) (all_passed left d now none), left-over left none c.putting.copying more error field_is cause_is))
+
+    -- what was there is still before all
+    pub few_grown : {left : List Kind} {longer : List ℕ} → IsPuttingFew kinds start most before left d now octets → (more : List ℕ) × (longer ≡ octets ++ more)
+        → (all : List ℕ) × (longer ≡ before ++ all)
+    few_grown c (more, is) =
+        let own = octets_of (canonical_pieces c.putting.done) in
+        (own ++ more, is ∙ ap (λ (x : List ℕ). x ++ more) c.putting.put ∙ append_assoc before own more)
+
+-- fields of a record of a message that are not put
+pub few_selected : (r : RecordValue) (most place : ℕ) (error : CanonicalError) → FailsFew (record_kinds r) (data_start r) most place error
+    → FailsSelected r most place error
+few_selected r most place (why.Field number error) fails = fails
+few_selected r most place (why.TooManyPointers number) fails = fails
+few_selected r most place why.Memory fails = tt
+few_selected r most place (why.DataTooLong number) fails = absurd fails
+few_selected r most place why.NoRecords fails = absurd fails
+few_selected r most place why.TooFewLabels fails = absurd fails
+few_selected r most place (why.NotInSet number) fails = absurd fails
+few_selected r most place why.NotRrsig fails = absurd fails
+few_selected r most place (why.RrsigField error) fails = absurd fails
 
 -- ---- sizes
 

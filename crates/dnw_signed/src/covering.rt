@@ -1,9 +1,11 @@
 //! What a signature covers of the records of a message.
-ghost use Rattle.std.specs.Prelude.{◌≡◌, ◌≤◌, ◌↔◌, ◌++◌, ℕ, List, [], drop, length, IfOk, IfErr, IfSome, OnOk, OnErr, IsTrue, MatchBool};
+ghost use Rattle.std.specs.Prelude.{◌≡◌, ◌≤◌, ◌<◌, ◌+◌, ◌↔◌, ◌∷◌, ◌++◌, ℕ, List, [], drop, length, IfOk, IfErr, IfSome, OnOk, OnErr, IsTrue, MatchBool};
+ghost use Rattle.std.specs.Int.{w16, to_be_bytes};
 ghost use Rattle.std.specs.List.{flat_map};
-ghost use Rattle.dnw_base.specs.Limits.{max_pointers};
+ghost use Rattle.dnw_base.specs.Limits.{max_message, max_pointers};
 ghost use Rattle.dnw_base.specs.Names.{lower};
 ghost use Rattle.dnw_name_form.specs.Inside.WireBytes.{IsWire};
+ghost use Rattle.dnw_name_order.specs.Order.{IsZoneOf};
 ghost use Rattle.dnw_signed.specs.Covering.{AreCovered, FailsCovered, FailsRrsig, FailsToSign, HasRrsigType, IsCovered, IsRightRrsig, IsRrsigOf, IsSigned};
 ghost use Rattle.dnw_signed.specs.Covering.{Selects, SignsFor, label_count, original_ttl, type_covered};
 ghost use Rattle.dnw_signed.specs.RecordSets.{IsInOrder, set_record};
@@ -15,11 +17,11 @@ ghost use Rattle.dnw_signed.specs.Inside.Selecting.{FailsRecords, FailsSelected,
 use crate::canonical::{BEFORE_SIGNER, cut_signature};
 use crate::data_list::DataList;
 use crate::error::CanonicalError;
-use crate::fields::{append_lowered, put_record_data};
-use crate::pointers::pointers_left;
-use crate::set::{SetHead, TYPE_CLASS_TTL, append_data, append_head, append_set, make_set};
+use crate::fields::{append_name, put_limited, put_record_data};
+use crate::set::{SetHead, TYPE_CLASS_TTL, append_head, append_set, make_set};
 use dnw_base::limits::{MAX_MESSAGE, MAX_NAME, MAX_POINTERS};
 use dnw_base::record_type::RecordType;
+use dnw_data::kind::NameForm;
 use dnw_name::name_ref::NameRef;
 use dnw_name_form::wire_labels::WireLabels;
 use dnw_name_order::order::{eq_labels, is_zone_of};
@@ -141,7 +143,7 @@ fn append_known(rrsig: &RecordRef<'_>, out: &mut Vec<u8>) -> Result<bool, AllocE
         return Ok(false);
     };
     out.extend_from_slice(fixed.unverified())?;
-    append_lowered(signer.wire_labels(&mut [0; MAX_NAME]), out)?;
+    append_name(NameForm::Lowered, &signer, out)?;
     Ok(true)
 }
 
@@ -170,8 +172,17 @@ fn signs_for(fields: &[u8], owner: &NameRef<'_>) -> bool
     requires { IsWire (drop before_signer fields.now) }
     ensures { IsTrue result ↔ SignsFor fields.now owner.now }
 {
-    let signer = WireLabels::new(&fields[BEFORE_SIGNER..]);
-    is_zone_of(signer, owner.wire_labels(&mut [0; MAX_NAME]))
+    is_in_zone(owner, WireLabels::new(&fields[BEFORE_SIGNER..]))
+}
+
+/// Returns `true` if the last labels of a name are those of a zone, ignoring ASCII case.
+fn is_in_zone(name: &NameRef<'_>, zone: WireLabels<'_>) -> bool
+    ensures { IsTrue result ↔ IsZoneOf zone.entry name.now }
+{
+    match name.labels_in_place() {
+        Some(labels) => is_zone_of(zone, labels),
+        None => is_zone_of(zone, name.wire_labels(&mut [0; MAX_NAME])),
+    }
 }
 
 /// Appends the records that an RRSIG covers, as a set, after the octets of its data, which begin at an offset. If it fails, a part may
@@ -202,7 +213,7 @@ fn append_records(
         original_ttl: original_ttl(fields),
     };
     match only_covered(rrsig, &own, records) {
-        Some((number, item)) => append_only(alloc, rrsig, &head, number, item, out),
+        Some((number, item)) => append_only(rrsig, &head, number, item, out),
         None => {
             let list = covered(alloc, rrsig, &own, records)?;
             if list.is_empty() {
@@ -238,7 +249,6 @@ fn only_covered<'a, 'r>(
 
 /// Appends the only record that an RRSIG covers, which has this number. If it fails, a part may be appended.
 fn append_only(
-    alloc: Global,
     rrsig: &RecordRef<'_>,
     head: &SetHead,
     number: usize,
@@ -250,31 +260,49 @@ fn append_only(
     ensures err { IfErr result (FailsSelected item.now max_pointers number) }
     ensures grows { (more : List ℕ) × (out.new.items ≡ out.old.items ++ more) }
 {
-    let octets = canonical_of(alloc, number, item)?;
     append_head(rrsig.owner(), head, out)?;
-    append_data(octets.as_slice(), out)?;
+    append_counted(number, item, out)
+}
+
+/// Appends the data in canonical form of the record with this number, which is the first that an RRSIG covers, after their length. If
+/// it fails, a part may be appended.
+fn append_counted(
+    record: usize,
+    item: &RecordRef<'_>,
+    out: &mut Vec<u8>,
+) -> Result<(), CanonicalError>
+    ensures ok { OnOk result ((octets : List ℕ) × HasCanonical item.now octets
+        × (out.new.items ≡ out.old.items ++ (to_be_bytes w16 (length octets) ++ octets))) }
+    ensures err { IfErr result (FailsSelected item.now max_pointers «record») }
+    ensures grows { (more : List ℕ) × (out.new.items ≡ out.old.items ++ more) }
+{
+    let mut most = MAX_POINTERS;
+    let at = out.len();
+    out.extend_from_slice(&[0; LENGTH])?;
+    put_limited(item, record, &mut most, out)?;
+    let size = checked_size(record, out.len() - at - LENGTH)?;
+    put_length(out, at, size);
     Ok(())
 }
 
-/// Returns the data in canonical form of the record with this number, which is the first that an RRSIG covers.
-fn canonical_of(
-    alloc: Global,
-    record: usize,
-    item: &RecordRef<'_>,
-) -> Result<Vec<u8>, CanonicalError>
-    ensures ok { IfOk result (λ octets. HasCanonical item.now octets.items) }
-    ensures err { IfErr result (FailsSelected item.now max_pointers «record») }
+/// Returns how many octets the data of the record with this number take, if two octets can say it.
+fn checked_size(record: usize, size: usize) -> Result<u16, CanonicalError>
+    ensures ok { IfOk result (λ own. (own ≡ size) × (own ≤ max_message)) }
+    ensures err { IfErr result (λ error. (max_message < size) × (error ≡ CanonicalError.DataTooLong «record»)) }
 {
-    let Some(_) = pointers_left(item, MAX_POINTERS) else {
-        return Err(CanonicalError::TooManyPointers { record });
-    };
-    let mut octets = Vec::with_capacity(alloc, item.rdata().len() + MAX_NAME)?;
-    match put_record_data(item, &mut octets) {
-        Ok(()) if octets.len() <= MAX_MESSAGE as usize => Ok(octets),
-        Ok(()) => Err(CanonicalError::DataTooLong { record }),
-        Err(RDataError::Field(error)) => Err(CanonicalError::Field { record, error }),
-        Err(RDataError::Memory) => Err(CanonicalError::Memory),
+    if size > MAX_MESSAGE as usize {
+        return Err(CanonicalError::DataTooLong { record });
     }
+    Ok(size as u16)
+}
+
+/// Puts a length at an offset, in the place of two octets.
+fn put_length(out: &mut Vec<u8>, at: usize, size: u16)
+    requires { at + 2 ≤ length out.old.items }
+    ensures { (before own : List ℕ) → length before ≡ at → out.old.items ≡ before ++ 0 ∷ 0 ∷ own
+        → out.new.items ≡ before ++ (to_be_bytes w16 size ++ own) }
+{
+    out.as_mut_slice()[at..at + LENGTH].copy_from_slice(&u16::to_be_bytes(size));
 }
 
 /// Appends the records with these data, as a set. If it fails, a part may be appended.
@@ -339,19 +367,7 @@ fn select(
     if !is_covered(rrsig, own, item) {
         return Ok(());
     }
-    let Some(now) = pointers_left(item, *left) else {
-        return Err(CanonicalError::TooManyPointers { record: number });
-    };
-    *left = now;
-    match list.push_record(item) {
-        Ok(true) => Ok(()),
-        Ok(false) => Err(CanonicalError::DataTooLong { record: number }),
-        Err(RDataError::Field(error)) => Err(CanonicalError::Field {
-            record: number,
-            error,
-        }),
-        Err(RDataError::Memory) => Err(CanonicalError::Memory),
-    }
+    list.push_record(item, number, left)
 }
 
 /// Returns `true` if an RRSIG covers a record (RFC 4035, section 5.3.1).
@@ -369,11 +385,16 @@ fn is_covered(rrsig: &RecordRef<'_>, own: &Rrsig<'_>, item: &RecordRef<'_>) -> b
 fn is_same_name(name: &NameRef<'_>, other: &NameRef<'_>) -> bool
     ensures { IsTrue result ↔ (lower name.now ≡ lower other.now) }
 {
-    name.encoded_len() == other.encoded_len()
-        && eq_labels(
+    if name.encoded_len() != other.encoded_len() {
+        return false;
+    }
+    match (name.labels_in_place(), other.labels_in_place()) {
+        (Some(own), Some(others)) => eq_labels(own, others),
+        _ => eq_labels(
             name.wire_labels(&mut [0; MAX_NAME]),
             other.wire_labels(&mut [0; MAX_NAME]),
-        )
+        ),
+    }
 }
 
 /// Returns the type that an RRSIG covers (RFC 4034, section 3.1.1).

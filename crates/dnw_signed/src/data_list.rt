@@ -1,11 +1,14 @@
 //! The data of records in canonical form, in one buffer.
-ghost use Rattle.std.specs.Prelude.{◌≡◌, ◌≤◌, ◌<◌, ◌-◌, ◌↔◌, ℕ, List, [], ◌∷◌, ◌++◌, length, IfOk, IfErr, IsTrue, MatchBool};
+ghost use Rattle.std.specs.Prelude.{◌≡◌, ◌≤◌, ◌<◌, ◌-◌, ◌↔◌, ℕ, true, Some, List, [], ◌∷◌, ◌++◌, length, IfOk, IfErr, OnOk, IsTrue, MatchBool};
 ghost use Rattle.dnw_base.specs.Limits.{max_message};
-ghost use Rattle.dnw_signed.specs.CanonicalData.{FailsCanonical, IsCanonical, IsCanonicalOf};
+ghost use Rattle.dnw_signed.specs.CanonicalData.{IsCanonical, IsCanonicalOf};
+ghost use Rattle.dnw_signed.specs.DataPointers.{TakesDataPointers};
 ghost use Rattle.dnw_signed.specs.Inside.Going.{AreShort, all_octets};
 ghost use Rattle.dnw_signed.specs.Inside.Listing.{TakesData, HoldsData, data_of};
+ghost use Rattle.dnw_signed.specs.Inside.Selecting.{FailsSelected};
 
-use crate::fields::{put_data, put_record_data};
+use crate::error::CanonicalError;
+use crate::fields::{put_data, put_limited};
 use dnw_base::limits::MAX_MESSAGE;
 use dnw_record::rdata::{RData, RDataError};
 use dnw_record::record_ref::RecordRef;
@@ -48,17 +51,26 @@ impl DataList {
         Ok(fits)
     }
 
-    /// Appends the data of a record of a message. Returns `false` if two octets can't say how long they are; then the list is
-    /// of no use.
-    pub(crate) fn push_record(&mut self, item: &RecordRef<'_>) -> Result<bool, RDataError>
+    /// Appends the data of the record of a message with this number, and takes the pointers that its names follow from those that
+    /// are `left`. If it fails, the list is of no use.
+    pub(crate) fn push_record(
+        &mut self,
+        item: &RecordRef<'_>,
+        record: usize,
+        left: &mut usize,
+    ) -> Result<(), CanonicalError>
         requires { HoldsData self.old }
-        ensures ok { IfOk result (λ fits. (more : List ℕ) × IsCanonicalOf item.now more × TakesData fits self.old more self.new) }
-        ensures err { IfErr result (FailsCanonical item.now) }
+        ensures ok { OnOk result ((more : List ℕ) × TakesDataPointers item.now left.old (Some left.new) × IsCanonicalOf item.now more
+            × TakesData true self.old more self.new) }
+        ensures err { IfErr result (FailsSelected item.now left.old «record») }
     {
         let before = self.octets.len();
-        put_record_data(item, &mut self.octets)?;
-        let fits = self.end(before)?;
-        Ok(fits)
+        put_limited(item, record, left, &mut self.octets)?;
+        if self.end(before)? {
+            Ok(())
+        } else {
+            Err(CanonicalError::DataTooLong { record })
+        }
     }
 
     /// Ends data that begin at an offset of the buffer.

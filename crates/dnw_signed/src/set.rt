@@ -11,7 +11,7 @@ ghost use Rattle.dnw_signed.specs.Inside.Heads.{head_with};
 use crate::fields::append_lowered;
 use dnw_base::limits::MAX_NAME;
 use dnw_name::name_ref::NameRef;
-use dnw_name_form::wire_labels::last_labels;
+use dnw_name_form::wire_labels::{WireLabels, last_labels};
 use std::alloc::AllocError;
 
 /// The octets of a record between its owner and the length of its data.
@@ -50,9 +50,25 @@ fn append_owner(owner: &NameRef<'_>, labels: u8, out: &mut Vec<u8>) -> Result<()
     ensures ok { OnOk result (out.new.items ≡ out.old.items ++ wire (signed_owner (lower owner.now) labels)) }
     ensures grows { (more : List ℕ) × (out.new.items ≡ out.old.items ++ more) }
 {
-    let mut room = [0; MAX_NAME];
-    let own = owner.wire_labels(&mut room);
-    if owner.num_labels() <= labels {
+    let count = owner.num_labels();
+    match owner.labels_in_place() {
+        Some(own) => append_last(own, count, labels, out),
+        None => append_last(owner.wire_labels(&mut [0; MAX_NAME]), count, labels, out),
+    }
+}
+
+/// Appends the owner with these labels, of which there are `count`, as it was signed. If it fails, a part may be appended.
+fn append_last(
+    own: WireLabels<'_>,
+    count: u8,
+    labels: u8,
+    out: &mut Vec<u8>,
+) -> Result<(), AllocError>
+    requires { length own ≡ count }
+    ensures ok { OnOk result (out.new.items ≡ out.old.items ++ wire (signed_owner (lower own.entry) labels)) }
+    ensures grows { (more : List ℕ) × (out.new.items ≡ out.old.items ++ more) }
+{
+    if count <= labels {
         return append_lowered(own, out);
     }
     out.extend_from_slice(WILDCARD)?;

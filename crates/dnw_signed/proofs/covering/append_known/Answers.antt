@@ -16,7 +16,7 @@ returns-clause-ok c =
     let fixed : c.unverified.result.now ≡ front = rw c.unverified.ensures bytes in (
       front ++ wire (lower signer),
       known_rrsig c.args.rrsig.now signer k _ (front ++ wire (lower signer)) c.requires left takes refl,
-      (rw c.wire_labels.ensures at c.in_ok-append_lowered.ensures.ok)
+      c.in_ok-append_name.ensures.ok
           ∙ ap (λ (x : List ℕ). x ++ wire (lower signer)) (c.in_ok-extend_from_slice.ensures.items ∙ ap (λ (x : List ℕ). out ++ x) fixed)
           ∙ append_assoc out front (wire (lower signer)),
     )

@@ -1,6 +1,5 @@
 -- One field after another is put, up to the first that is none, or to the end.
 use Rattle.std.proofs.Common.{sym, ◌∙◌, refl}
-use Rattle.std.proofs.lemmas.Bool.{false≢true}
 use Rattle.std.proofs.lemmas.Result.{err_from_is_err_and}
 use Rattle.dnw_record.proofs.Copying.{left-over, stops}
 use Rattle.dnw_signed.proofs.Putting.{all_put, begins_putting, puts_on}
@@ -21,10 +20,13 @@ fields-preserved c =
     let (piece, takes, longer) = c.in_ok-put_field.ensures.ok in
     puts_on (rw c.in-Some.ensures.cases.0 at c.fields.invariant) piece takes longer
 
-pub returns-then-not-is_empty-clause-err : goal.returns-then-not-is_empty-clause-err
-returns-then-not-is_empty-clause-err c =
-    left-over c.fields.left.now c.in_default.ensures.cases c.fields.invariant.copying (λ end. false≢true (sym c.if-not-is_empty.true ∙ c.is_empty.ensures.1 end)) _ refl
-    (rw (c.index.ensures.index, c.index-first.ensures.index, c.message.ensures) refl)
-
 pub returns-clause-ok : goal.returns-clause-ok
-returns-clause-ok c = all_put c.fields.left.now c.in_default.ensures.cases c.fields.invariant (c.is_empty.ensures.0 c.if-not-is_empty.false)
+returns-clause-ok c = all_put c.fields.left.now c.in_default.ensures.cases c.fields.invariant c.in_ok-check_end.ensures.ok
+
+pub returns-in_err-check_end-clause-err : goal.returns-in_err-check_end-clause-err
+returns-in_err-check_end-clause-err c =
+    let exit = c.from_residual-in_err-check_end in
+    let (error, is, cause) = err_from_is_err_and exit.result exit.ensures.1 in
+    let (more, field, why) = c.in_err-check_end.ensures.err in
+    rw (is, cause)
+    (left-over c.fields.left.now c.in_default.ensures.cases c.fields.invariant.copying more c.in_err-check_end.field-0.0 field (rw c.index-first.ensures.index at why))
