@@ -1,9 +1,9 @@
 -- What the function for C puts of the sort key of a record, and why it puts nothing.
-use Rattle.std.specs.Prelude.{◌⊎◌, ℕ, List, length, Result}
+use Rattle.std.specs.Prelude.{◌⊎◌, ℕ, List, Result}
 use Rattle.dnw_record.specs.Records.{RecordValue}
 use Rattle.dnw_signed.specs.RecordKeys.{IsRecordKey}
-use Rattle.dnw_c_base.specs.Results.{Puts, Refuses}
 use Rattle.dnw_c_base.specs.declared.failure.Failure.{Failure}
+use Rattle.dnw_c_signed.specs.PutCalls.{PutsSuch}
 use Rattle.dnw_c_signed.specs.RecordCalls.{FailsRecordAt, FailsToCopyRecord, HasRecordAt}
 
 -- The octets are the sort key of the record at an offset.
@@ -16,6 +16,4 @@ FailsToKeyAt message p failure =
     FailsRecordAt message p failure ⊎ ((r : RecordValue) × HasRecordAt message p r × FailsToCopyRecord r failure)
 
 abbrev pub PutsRecordKey : List ℕ → ℕ → List ℕ → List ℕ → Result ℕ Failure → Type 0
-PutsRecordKey message p old new result =
-    ((own : List ℕ) × IsRecordKeyAt message p own × Puts own (length own) old new result)
-    ⊎ Refuses (FailsToKeyAt message p) old new result
+PutsRecordKey message p old new result = PutsSuch (IsRecordKeyAt message p) (FailsToKeyAt message p) old new result

@@ -1,13 +1,13 @@
 -- What the function for C puts of what a signature covers, and why it puts nothing (RFC 4034, section 3.1.8.1).
-use Rattle.std.specs.Prelude.{◌≡◌, ◌⊎◌, ℕ, List, length, Result}
+use Rattle.std.specs.Prelude.{◌≡◌, ◌⊎◌, ℕ, List, Result}
 use Rattle.dnw_record.specs.Records.{RecordValue}
 use Rattle.dnw_signed.specs.Covering.{FailsToSign, IsSigned}
 use Rattle.dnw_signed.specs.declared.error.CanonicalError.{CanonicalError}
 use Rattle.dnw_signed.specs.declared.error.CanonicalError.TheVariants as canonical
 use Rattle.dnw_c_base.specs.Failures.{of_decode}
-use Rattle.dnw_c_base.specs.Results.{Puts, Refuses}
 use Rattle.dnw_c_base.specs.declared.failure.Failure.{Failure}
 use Rattle.dnw_c_base.specs.declared.failure.Failure.TheVariants as why
+use Rattle.dnw_c_signed.specs.PutCalls.{PutsSuch}
 use Rattle.dnw_c_signed.specs.RecordCalls.{AreLimitedRecords, FailsRecordAt, FailsToRead, HasRecordAt}
 
 -- The octets are what the signature of the record at an offset covers of the records from another one up to the end.
@@ -39,6 +39,4 @@ FailsToSignAt message start at failure =
 -- ---- what is put
 
 abbrev pub PutsSigned : List ℕ → ℕ → ℕ → List ℕ → List ℕ → Result ℕ Failure → Type 0
-PutsSigned message start at old new result =
-    ((own : List ℕ) × IsSignedAt message start at own × Puts own (length own) old new result)
-    ⊎ Refuses (FailsToSignAt message start at) old new result
+PutsSigned message start at old new result = PutsSuch (IsSignedAt message start at) (FailsToSignAt message start at) old new result

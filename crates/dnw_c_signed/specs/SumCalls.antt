@@ -7,6 +7,7 @@ use Rattle.dnw_signed.specs.KeyTags.{FailsKeyTag, HasKeyTag, key_tag}
 use Rattle.dnw_signed.specs.declared.error.DnssecError.{DnssecError}
 use Rattle.dnw_signed.specs.declared.error.DnssecError.TheVariants as dnssec
 use Rattle.dnw_c_base.specs.Results.{GivesOr, Puts, Refuses}
+use Rattle.dnw_c_signed.specs.PutCalls.{PutsSuch}
 use Rattle.dnw_c_base.specs.WireForms.{IsFormOf, IsNoForm}
 use Rattle.dnw_c_base.specs.declared.failure.Failure.{Failure}
 use Rattle.dnw_c_base.specs.declared.failure.Failure.TheVariants as why
@@ -41,8 +42,7 @@ FailsToDigest form dnskey digest_type failure =
 
 abbrev pub PutsDigest : List ℕ → List ℕ → ℕ → List ℕ → List ℕ → Result ℕ Failure → Type 0
 PutsDigest form dnskey digest_type old new result =
-    ((own : List ℕ) × HasDigest form dnskey digest_type own × Puts own (length own) old new result)
-    ⊎ Refuses (FailsToDigest form dnskey digest_type) old new result
+    PutsSuch (HasDigest form dnskey digest_type) (FailsToDigest form dnskey digest_type) old new result
 
 -- ---- hashed names
 

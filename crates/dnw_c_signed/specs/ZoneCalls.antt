@@ -7,10 +7,10 @@ use Rattle.dnw_record.specs.AnyRecords.{IsCopyOf}
 use Rattle.dnw_record.specs.declared.record.Record.{Record}
 use Rattle.dnw_signed.specs.DataPointers.{TakesDataPointers}
 use Rattle.dnw_signed.specs.ZoneDigests.{FailsZoneDigest, IsZoneDigest}
-use Rattle.dnw_c_base.specs.Results.{Puts, Refuses}
 use Rattle.dnw_c_base.specs.WireForms.{IsFormOf, IsNoForm}
 use Rattle.dnw_c_base.specs.declared.failure.Failure.{Failure}
 use Rattle.dnw_c_base.specs.declared.failure.Failure.TheVariants as why
+use Rattle.dnw_c_signed.specs.PutCalls.{PutsSuch}
 use Rattle.dnw_c_signed.specs.RecordCalls.{FailsToCopyRecord, IsNoNextRecord, LimitedRecordAt, TakesNextRecord, at_offset}
 use Rattle.dnw_c_signed.specs.SumCalls.{FailsAs}
 
@@ -60,5 +60,4 @@ FailsToDigestZone apex records algorithm failure =
 
 abbrev pub PutsZoneDigest : List ℕ → List ℕ → ℕ → List ℕ → List ℕ → Result ℕ Failure → Type 0
 PutsZoneDigest apex records algorithm old new result =
-    ((own : List ℕ) × HasZoneDigest apex records algorithm own × Puts own (length own) old new result)
-    ⊎ Refuses (FailsToDigestZone apex records algorithm) old new result
+    PutsSuch (HasZoneDigest apex records algorithm) (FailsToDigestZone apex records algorithm) old new result
