@@ -1,5 +1,8 @@
 -- The octets that an RRSIG has signed of its data: the first 18, and the name after them, in lower case.
-use Rattle.std.proofs.Common.{◌≡◌, ℕ, ◌+◌, ◌-◌, ◌≤◌, None, List, [], ◌∷◌, ◌++◌, length, take, drop, refl, sym, ap, ◌∙◌, subst, append_assoc, arith}
+use Rattle.std.proofs.Common.{◌≡◌, ◌↔◌, ℕ, ◌+◌, ◌-◌, ◌≤◌, Bool, IsTrue, None, List, [], ◌∷◌, ◌++◌, length, map, take, drop, refl, sym, ap, ◌∙◌, subst, append_assoc, arith}
+use Rattle.std.proofs.Math.Seq.{drop-append_seam}
+use Rattle.std.proofs.lemmas.Str.Ascii.{lowercase-lowercase}
+use Rattle.std.specs.Char.{to_ascii_lowercase}
 use Rattle.std.proofs.lemmas.List.{length-append, length-drop, length-take-le}
 use Rattle.std.specs.List.{AllByRecursion, slice_range}
 use Rattle.dnw_base.specs.Decoder.{Decoder, HasLeft, advanced, next_bytes}
@@ -11,6 +14,9 @@ use Rattle.dnw_data.specs.Values.{own_fault, own_size}
 use Rattle.dnw_data.specs.declared.kind.Kind.{Kind}
 use Rattle.dnw_data.specs.declared.kind.Kind.TheVariants.{Name, U8, U16, U32, TypeCode, Time}
 use Rattle.dnw_data.specs.declared.kind.NameForm.TheVariants.{Lowered}
+use Rattle.dnw_name_form.proofs.LowerWires.{AreLabels_lower}
+use Rattle.dnw_name_form.proofs.Wires.{labels_of_form}
+use Rattle.dnw_name_order.specs.Order.{IsZoneOf}
 use Rattle.dnw_name_read.proofs.Copying.{slice_range_split}
 use Rattle.dnw_name_read.proofs.Counts.{own_octets}
 use Rattle.dnw_name_read.specs.Reading.{TakesName}
@@ -19,6 +25,7 @@ use Rattle.dnw_record.specs.DataPieces.{DataPiece, name_piece, octets_of, octets
 use Rattle.dnw_record.specs.Records.{RecordValue}
 use Rattle.dnw_signed.specs.Covering.{HasRrsigType, IsRrsigOf}
 use Rattle.dnw_signed.specs.SignedFields.{before_signer}
+use Rattle.dnw_signed.specs.Inside.Selecting.{KnowsZone}
 use Rattle.dnw_signed.proofs.Rrsigs.{IsFixed, all_fixed, fixed_kinds, rrsig_kinds, sizes}
 
 -- a field of a fixed size and with no fault
@@ -121,3 +128,31 @@ known_rrsig s labels k after fields type left t is =
         signed = is;
       };
     }
+
+-- ---- the zone
+
+label_twice : (label : List ℕ) → map to_ascii_lowercase (map to_ascii_lowercase label) ≡ map to_ascii_lowercase label
+label_twice [] = refl
+label_twice (c ∷ label) = rw (lowercase-lowercase c, label_twice label) refl
+
+lower_twice : (labels : List (List ℕ)) → lower (lower labels) ≡ lower labels
+lower_twice [] = refl
+lower_twice (label ∷ labels) = rw (label_twice label, lower_twice labels) refl
+
+-- whether the name that was read is a zone of the owner is whether its form in lower case is
+pub known_zone : (s : RecordValue) (labels : List (List ℕ)) (k : ℕ) (after : Decoder) (fields : List ℕ) (in_zone : Bool)
+    → HasLeft (data_start s) before_signer → TakesName (advanced (data_start s) before_signer) after labels k
+    → fields ≡ next_bytes (data_start s) before_signer ++ wire (lower labels) → IsTrue in_zone ↔ IsZoneOf labels s.owner → KnowsZone s fields in_zone
+known_zone s labels k after fields in_zone left t is (to, back) =
+    let front = next_bytes (data_start s) before_signer in
+    let (further_on, inside, are) = own_octets _ _ labels t.end k t.name in
+    let rest : drop before_signer fields ≡ wire (lower labels) =
+    ap (λ n. drop n fields) (sym (front_size (data_start s) left)) ∙ ap (λ (x : List ℕ). drop (length front) x) is
+    ∙ drop-append_seam front (wire (lower labels)) in
+    let low = AreLabels_lower labels are in (
+      λ h. let (first, last, split, same) = to h in (lower labels, low, rest, (first, last, split, same ∙ sym (lower_twice labels))),
+      λ h. let (signer, these, form, zone) = h in
+          let (first, last, split, same) = zone in
+          let signer_is : signer ≡ lower labels = sym (labels_of_form (drop before_signer fields) signer form these).1 ∙ (labels_of_form (drop before_signer fields) (lower labels) rest low).1 in
+          back (first, last, split, same ∙ ap lower signer_is ∙ lower_twice labels),
+    )

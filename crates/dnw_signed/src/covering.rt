@@ -1,5 +1,5 @@
 //! What a signature covers of the records of a message.
-ghost use Rattle.std.specs.Prelude.{◌≡◌, ◌≤◌, ◌<◌, ◌+◌, ◌↔◌, ◌∷◌, ◌++◌, ℕ, List, [], drop, length, IfOk, IfErr, IfSome, OnOk, OnErr, IsTrue, MatchBool};
+ghost use Rattle.std.specs.Prelude.{◌≡◌, ◌≤◌, ◌<◌, ◌+◌, ◌↔◌, ◌∷◌, ◌++◌, ℕ, List, [], drop, length, IfOk, IfErr, IfSome, OnOk, OnErr, IsTrue, MatchOption};
 ghost use Rattle.std.specs.Int.{w16, to_be_bytes};
 ghost use Rattle.std.specs.List.{flat_map};
 ghost use Rattle.dnw_base.specs.Limits.{max_message, max_pointers};
@@ -12,7 +12,7 @@ ghost use Rattle.dnw_signed.specs.RecordSets.{IsInOrder, set_record};
 ghost use Rattle.dnw_signed.specs.SignedFields.{before_signer};
 ghost use Rattle.dnw_signed.specs.Inside.Heads.{head_with};
 ghost use Rattle.dnw_signed.specs.Inside.Listing.{HoldsData, data_of};
-ghost use Rattle.dnw_signed.specs.Inside.Selecting.{FailsRecords, FailsSelected, HasCanonical, IsOnlyCovered, IsRrsigAs};
+ghost use Rattle.dnw_signed.specs.Inside.Selecting.{FailsRecords, FailsSelected, HasCanonical, IsOnlyCovered, IsRrsigAs, KnowsZone};
 
 use crate::canonical::{BEFORE_SIGNER, cut_signature};
 use crate::data_list::DataList;
@@ -86,17 +86,19 @@ fn append_signed(
     ensures grows { (more : List ℕ) × (out.new.items ≡ out.old.items ++ more) }
 {
     let start = out.len();
-    append_fields(alloc, rrsig, out)?;
-    append_records(alloc, rrsig, records, start, out)
+    let in_zone = append_fields(alloc, rrsig, out)?;
+    append_records(alloc, rrsig, records, in_zone, start, out)
 }
 
-/// Appends the octets of the data of an RRSIG that its signature covers. If it fails, a part may be appended.
+/// Appends the octets of the data of an RRSIG that its signature covers, and returns `true` if its signer is the owner, or a name that
+/// the owner is below. If it fails, a part may be appended.
 fn append_fields(
     alloc: Global,
     rrsig: &RecordRef<'_>,
     out: &mut Vec<u8>,
-) -> Result<(), CanonicalError>
-    ensures ok { OnOk result ((fields : List ℕ) × IsRightRrsig rrsig.now fields × (out.new.items ≡ out.old.items ++ fields)) }
+) -> Result<bool, CanonicalError>
+    ensures ok { IfOk result (λ in_zone. (fields : List ℕ) × IsRightRrsig rrsig.now fields × KnowsZone rrsig.now fields in_zone
+        × (out.new.items ≡ out.old.items ++ fields)) }
     ensures err { IfErr result (FailsRrsig rrsig.now) }
     ensures grows { (more : List ℕ) × (out.new.items ≡ out.old.items ++ more) }
 {
@@ -104,47 +106,53 @@ fn append_fields(
         return Err(CanonicalError::NotRrsig);
     }
     let start = out.len();
-    append_own(alloc, rrsig, out)?;
+    let in_zone = append_own(alloc, rrsig, out)?;
     if rrsig.owner().num_labels() < label_count(&out.as_slice()[start..]) {
         return Err(CanonicalError::TooFewLabels);
     }
-    Ok(())
+    Ok(in_zone)
 }
 
-/// Appends the octets of the data of an RRSIG that its signature covers, whatever it counts. If it fails, a part may be appended.
-fn append_own(alloc: Global, rrsig: &RecordRef<'_>, out: &mut Vec<u8>) -> Result<(), CanonicalError>
+/// Appends the octets of the data of an RRSIG that its signature covers, whatever it counts, and returns whether its signer may be the
+/// zone of its owner. If it fails, a part may be appended.
+fn append_own(
+    alloc: Global,
+    rrsig: &RecordRef<'_>,
+    out: &mut Vec<u8>,
+) -> Result<bool, CanonicalError>
     requires { HasRrsigType rrsig.now }
-    ensures ok { OnOk result ((fields : List ℕ) × IsRrsigOf rrsig.now fields × (out.new.items ≡ out.old.items ++ fields)) }
+    ensures ok { IfOk result (λ in_zone. (fields : List ℕ) × IsRrsigOf rrsig.now fields × KnowsZone rrsig.now fields in_zone
+        × (out.new.items ≡ out.old.items ++ fields)) }
     ensures err { IfErr result (FailsRrsig rrsig.now) }
     ensures grows { (more : List ℕ) × (out.new.items ≡ out.old.items ++ more) }
 {
     out.reserve(rrsig.rdata().len() + 2 * MAX_NAME)?;
-    if append_known(rrsig, out)? {
-        return Ok(());
+    if let Some(in_zone) = append_known(rrsig, out)? {
+        return Ok(in_zone);
     }
     let fields = fields_of(alloc, rrsig)?;
     out.extend_from_slice(fields.as_slice())?;
-    Ok(())
+    Ok(signs_for(fields.as_slice(), rrsig.owner()))
 }
 
-/// Appends the octets of the data of an RRSIG that its signature covers, if they begin as they should, and returns `true`. If it
-/// fails, a part may be appended.
-fn append_known(rrsig: &RecordRef<'_>, out: &mut Vec<u8>) -> Result<bool, AllocError>
+/// Appends the octets of the data of an RRSIG that its signature covers, and returns whether its signer may be the zone of its owner.
+/// If they do not begin as they should, nothing is appended, and it returns `None`. If it fails, a part may be appended.
+fn append_known(rrsig: &RecordRef<'_>, out: &mut Vec<u8>) -> Result<Option<bool>, AllocError>
     requires { HasRrsigType rrsig.now }
-    ensures ok { IfOk result (λ known. MatchBool known
-        ((fields : List ℕ) × IsRrsigOf rrsig.now fields × (out.new.items ≡ out.old.items ++ fields)) (out.new.items ≡ out.old.items)) }
+    ensures ok { IfOk result (λ known. MatchOption known (out.new.items ≡ out.old.items) (λ in_zone. (fields : List ℕ)
+        × IsRrsigOf rrsig.now fields × KnowsZone rrsig.now fields in_zone × (out.new.items ≡ out.old.items ++ fields))) }
     ensures grows { (more : List ℕ) × (out.new.items ≡ out.old.items ++ more) }
 {
     let mut reader = rrsig.data_decoder();
     let Ok(fixed) = reader.read_slice(BEFORE_SIGNER) else {
-        return Ok(false);
+        return Ok(None);
     };
     let Ok(signer) = NameRef::read(&mut reader) else {
-        return Ok(false);
+        return Ok(None);
     };
     out.extend_from_slice(fixed.unverified())?;
     append_name(NameForm::Lowered, &signer, out)?;
-    Ok(true)
+    Ok(Some(is_in_zone(rrsig.owner(), &signer)))
 }
 
 /// Returns the octets of the data of an RRSIG that its signature covers.
@@ -172,17 +180,29 @@ fn signs_for(fields: &[u8], owner: &NameRef<'_>) -> bool
     requires { IsWire (drop before_signer fields.now) }
     ensures { IsTrue result ↔ SignsFor fields.now owner.now }
 {
-    is_in_zone(owner, WireLabels::new(&fields[BEFORE_SIGNER..]))
+    let signer = WireLabels::new(&fields[BEFORE_SIGNER..]);
+    is_zone_of(signer, owner.wire_labels(&mut [0; MAX_NAME]))
 }
 
 /// Returns `true` if the last labels of a name are those of a zone, ignoring ASCII case.
-fn is_in_zone(name: &NameRef<'_>, zone: WireLabels<'_>) -> bool
-    ensures { IsTrue result ↔ IsZoneOf zone.entry name.now }
+fn is_in_zone(name: &NameRef<'_>, zone: &NameRef<'_>) -> bool
+    ensures { IsTrue result ↔ IsZoneOf zone.now name.now }
 {
-    match name.labels_in_place() {
-        Some(labels) => is_zone_of(zone, labels),
-        None => is_zone_of(zone, name.wire_labels(&mut [0; MAX_NAME])),
+    match (zone.labels_in_place(), name.labels_in_place()) {
+        (Some(last), Some(labels)) => is_zone_of(last, labels),
+        _ => is_gathered_in_zone(name, zone),
     }
+}
+
+/// Returns what `is_in_zone` does. Its rooms are no part of the frame of a caller, which would clear them for other names too.
+#[inline(never)]
+fn is_gathered_in_zone(name: &NameRef<'_>, zone: &NameRef<'_>) -> bool
+    ensures { IsTrue result ↔ IsZoneOf zone.now name.now }
+{
+    is_zone_of(
+        zone.wire_labels(&mut [0; MAX_NAME]),
+        name.wire_labels(&mut [0; MAX_NAME]),
+    )
 }
 
 /// Appends the records that an RRSIG covers, as a set, after the octets of its data, which begin at an offset. If it fails, a part may
@@ -191,21 +211,20 @@ fn append_records(
     alloc: Global,
     rrsig: &RecordRef<'_>,
     records: &[RecordRef<'_>],
+    in_zone: bool,
     start: usize,
     out: &mut Vec<u8>,
 ) -> Result<(), CanonicalError>
     requires within { start ≤ length out.old.items }
     requires right { IsRightRrsig rrsig.now (drop start out.old.items) }
+    requires zone { KnowsZone rrsig.now (drop start out.old.items) in_zone }
     ensures ok { OnOk result ((own : List ℕ) × IsSigned rrsig.now records.now (drop start out.old.items ++ own)
         × (out.new.items ≡ out.old.items ++ own)) }
     ensures err { IfErr result (FailsRecords rrsig.now (drop start out.old.items) records.now) }
     ensures grows { (more : List ℕ) × (out.new.items ≡ out.old.items ++ more) }
 {
     let fields = &out.as_slice()[start..];
-    let own = Rrsig {
-        fields,
-        in_zone: signs_for(fields, rrsig.owner()),
-    };
+    let own = Rrsig { fields, in_zone };
     let head = SetHead {
         code: type_covered(fields),
         class: u16::from(rrsig.class()),

@@ -1,5 +1,5 @@
 -- Records of which those that an RRSIG covers are listed, one by one.
-use Rattle.std.specs.Prelude.{◌≡◌, ◌≤◌, ◌⊎◌, ℕ, ◌↔◌, IsTrue, Option, Some, None, List, [], ◌∷◌, ◌++◌, length}
+use Rattle.std.specs.Prelude.{◌≡◌, ◌≤◌, ◌⊎◌, ℕ, ◌↔◌, Bool, IsTrue, Option, Some, None, List, [], ◌∷◌, ◌++◌, length}
 use Rattle.std.specs.Borrow.{Bor}
 use Rattle.std.specs.List.{AllByRecursion}
 use Rattle.dnw_record.specs.Records.{RecordValue}
@@ -14,10 +14,14 @@ use Rattle.dnw_signed.specs.declared.covering.Rrsig.{Rrsig}
 use Rattle.dnw_signed.specs.declared.data_list.DataList.{DataList}
 use Rattle.dnw_signed.specs.Inside.Listing.{HoldsData, data_of}
 
+-- It is said whether the signer may be the zone of the owner.
+abbrev pub KnowsZone : RecordValue → List ℕ → Bool → Type 0
+KnowsZone s fields in_zone = IsTrue in_zone ↔ SignsFor fields s.owner
+
 -- This is the RRSIG that a record of a message is.
 pub record IsRrsigAs (s : RecordValue) (rrsig : Rrsig) : Type 0 where
   pub right : IsRightRrsig s rrsig.fields.now
-  pub zone : IsTrue rrsig.in_zone ↔ SignsFor rrsig.fields.now s.owner
+  pub zone : KnowsZone s rrsig.fields.now rrsig.in_zone
 
 -- Of these records those that are covered are listed, and those of any that follow are what all are.
 pub record IsSelecting (s : RecordValue) (fields : List ℕ) (done : List RecordValue) (list : DataList) (left : ℕ) : Type 0 where

@@ -1,25 +1,20 @@
-use Rattle.std.proofs.Common.{◌≡◌, true, false, List, ℕ, drop, inl, sym, ap, ◌∙◌, subst}
+use Rattle.std.proofs.Common.{◌≡◌, true, false, List, ℕ, inl, sym, ap, ◌∙◌, subst}
 use Rattle.std.proofs.lemmas.Result.{IfErr-weaker, err_from_is_err_and, on_ok_weaker}
 use Rattle.dnw_base.specs.DnsClasses.{class_code}
-use Rattle.dnw_name_form.specs.Inside.WireBytes.{IsWire}
 use Rattle.dnw_signed.specs.Covering.{AreCovered, FailsCovered, IsRightRrsig}
 use Rattle.dnw_base.specs.Limits.{max_pointers}
-use Rattle.dnw_signed.specs.SignedFields.{before_signer}
 use Rattle.dnw_signed.specs.Inside.Listing.{data_of}
-use Rattle.dnw_signed.specs.Inside.Selecting.{IsOnlyCovered}
+use Rattle.dnw_signed.specs.Inside.Selecting.{IsOnlyCovered, KnowsZone}
 use Rattle.dnw_signed.proofs.OnlyOne.{head_is, only_fails, part_is, signs_list, signs_only}
-use Rattle.dnw_signed.proofs.Selecting.{signer_left}
 use Rattle.dnw_signed.proofs.covering.append_records.Goals as goal
-
-pub signs_for-requires : goal.signs_for-requires
-signs_for-requires c =
-    let part = part_is c.as_slice.result.now c.args.out.now.items c.args.start c.as_slice.ensures.value in
-    subst (λ (x : List ℕ). IsWire (drop before_signer x)) (sym part) (signer_left c.requires.right.0)
 
 pub only_covered-requires : goal.only_covered-requires
 only_covered-requires c =
     let part = part_is c.as_slice.result.now c.args.out.now.items c.args.start c.as_slice.ensures.value in
-    record { right = subst (IsRightRrsig c.args.rrsig.now) (sym part) c.requires.right; zone = rw c.owner.ensures at c.signs_for.ensures }
+    record {
+      right = subst (IsRightRrsig c.args.rrsig.now) (sym part) c.requires.right;
+      zone = subst (λ (x : List ℕ). KnowsZone c.args.rrsig.now x c.args.in_zone) (sym part) c.requires.zone;
+    }
 
 pub returns-in_err-list-in-None-clause-err : goal.returns-in_err-list-in-None-clause-err
 returns-in_err-list-in-None-clause-err c =
@@ -50,4 +45,4 @@ returns-in_ok-append_list-in-None-clause-ok c =
     signs_list _ _ _ c.requires.right (subst (λ (x : List ℕ). AreCovered c.args.rrsig.now x c.args.records.now max_pointers all left) part covered)
     (λ empty. let no : false ≡ true = sym c.if-is_empty.false ∙ c.is_empty.ensures.1 empty in cc)
     (head_is c.args.rrsig.now _ _ _ part c.type_covered.ensures (c.from.ensures ∙ ap class_code c.class.ensures) c.label_count.ensures c.original_ttl.ensures)
-    (rw c.owner-in-None.ensures at c.in_ok-append_list-in-None.ensures.ok)
+    (rw c.owner.ensures at c.in_ok-append_list-in-None.ensures.ok)
