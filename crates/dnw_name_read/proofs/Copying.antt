@@ -1,5 +1,5 @@
 -- A copy of a name, run by run.
-use Rattle.std.proofs.Common.{◌≡◌, ℕ, suc, Bool, IsTrue, ◌+◌, ◌-◌, ◌<◌, ◌≤◌, Option, List, [], ◌∷◌, ◌++◌, length, take, drop, get_or, slice_range, refl, ap, ◌∙◌, append_assoc, add-one, arith, length-append}
+use Rattle.std.proofs.Common.{◌≡◌, ℕ, suc, Bool, IsTrue, ◌+◌, ◌-◌, ◌<◌, ◌≤◌, Option, List, [], ◌∷◌, ◌++◌, length, take, drop, get_or, slice_range, refl, ap, ◌∙◌, append_assoc, add-one, arith, length-append, length-take-le}
 use Rattle.std.proofs.Math.Seq.{take-add, drop-cons}
 use Rattle.std.proofs.lemmas.List.{drop-drop, take_at}
 use Rattle.std.proofs.lemmas.Grind.{common_steps}
@@ -12,7 +12,7 @@ use Rattle.dnw_name_read.specs.Reading.{target, Reads, zero_octet, label, pointe
 use Rattle.dnw_name_read.specs.Inside.Found.{labels_at, StandsAt, NameLiesAt, CopiesRuns}
 use Rattle.dnw_name_read.proofs.Counts.{length_label, Reads_own}
 use Rattle.dnw_base.proofs.Wires.{wire_cons, length_wire}
-use Rattle.dnw_name_read.proofs.Behind.{here, StandsAt_reads}
+use Rattle.dnw_name_read.proofs.Found.{here, StandsAt_reads}
 
 -- a part is its front and the rest
 pub slice_range_split : (b : List ℕ) (i j k : ℕ) → i ≤ j → j ≤ k → slice_range b i k ≡ slice_range b i j ++ slice_range b j k
@@ -44,84 +44,61 @@ Reads_plain (pointer high low w g least g' prior r) none = absurd (omega arith)
 pub LiesAt_plain : {b : List ℕ} {p size count : ℕ} {in_one_piece : Bool} → NameLiesAt b p size count in_one_piece → IsTrue in_one_piece
     → (p + size ≤ length b) × (slice_range b p (p + size) ≡ wire (labels_at b p))
 LiesAt_plain {b} {p} {size} h whole =
-    let (behind, inside) = Reads_own h.stands.name.reads in
+    let (after, inside) = Reads_own h.stands.name.reads in
     let form = Reads_plain h.stands.name.reads (h.plain whole) in
-    let size_is = h.stands.size_is in
-    let end_is : h.end ≡ p + size = omega (arith, length-between b p h.end (omega arith), ap length form, length_wire (labels_at b p)) in
+    let end_is : h.end ≡ p + size = omega (arith, h.stands.size_is, length-between b p h.end inside, ap length form, length_wire (labels_at b p)) in
     (omega arith, rw end_is at form)
 
 -- the copy of a name begins
 pub Copies_start : {b : List ℕ} {p end size count pointers : ℕ} (out : List ℕ) → StandsAt b p end size count pointers → CopiesRuns b p p p out out 0
-Copies_start {b} {p} {end} {size} {count} {pointers} out h = record {
-  segment = p;
-  on = StandsAt_reads b p end size count pointers h;
-  order = omega arith;
-  back = omega arith;
-  written = [];
-  whole = rw between_none refl;
-  size = refl;
-  is = refl;
-}
+Copies_start {p} out h = record { segment = p; on = StandsAt_reads h; counts = omega arith; whole = rw between_none refl }
+
+-- what is put at an offset is before what follows it, and the rest is unchanged
+put_there : (out after more : List ℕ) (at size n : ℕ) → after ≡ take at out ++ (more ++ drop (at + length more) out) → size ≡ at + length more
+    → size ≤ n → n ≤ length out → (take size after ≡ take at out ++ more) × (drop n after ≡ drop n out)
+put_there out after more at size n is size_is order room =
+    let front : length (take at out ++ more) ≡ size = omega (arith, length-append {A = ℕ}, length-take-le at out (omega arith)) in
+    let whole : after ≡ (take at out ++ more) ++ drop size out = rw (size_is, append_assoc) is in
+    (ap (take size) whole ∙ take_at _ _ size front, ap (drop n) whole ∙ drop-append-drop size out _ n order front)
 
 module _ {b : List ℕ} {start run p : ℕ} {buffer out : List ℕ} {filled : ℕ} (h : CopiesRuns b start run p buffer out filled) where
-  -- the run that is still to be written
-  Copies-run : length (slice_range b run p) ≡ p - run
-  Copies-run = length-between b run p (omega (arith, h.on.inside))
-
-  -- what is written and what is not make the whole form
-  pub Copies-size : filled + (p - run) + length (wire (labels_at b p)) ≡ length (wire (labels_at b start))
-  Copies-size =
-      omega (arith, h.size, ap length h.whole, Copies-run, length-append h.written (slice_range b run p ++ wire (labels_at b p)), length-append (slice_range b run p) (wire (labels_at b p)))
-
-  -- one more run is put after what is written
-  put_more : (after more : List ℕ) → after ≡ take filled out ++ (more ++ drop (filled + length more) out) → after ≡ put buffer (h.written ++ more)
-  put_more after more is =
-      let n : ℕ = length h.written in
-      let back = drop-append-drop n buffer h.written (n + length more) (omega arith) refl in
-      is ∙ rw (h.is, h.size, take_at h.written (drop n buffer) n refl, back, length-append, append_assoc) refl
-
   -- the last run ends with the zero
   pub Copies-end : (after : List ℕ) → get_or b p 0 ≡ 0
       → after ≡ take filled out ++ (slice_range b run (p + 1) ++ drop (filled + length (slice_range b run (p + 1))) out)
       → after ≡ put buffer (wire (labels_at b start))
   Copies-end after z is =
-      let none : labels_at b p ≡ [] = (here h.on).end z in
+      let none = (here h.on).end z in
       let last : slice_range b p (p + 1) ≡ 0 ∷ [] = rw (slice_range_cons b p (p + 1) h.on.inside (omega arith), z, between_none) refl in
-      let run_is = slice_range_split b run p (p + 1) h.order (omega arith) in
-      put_more after _ is ∙ ap (put buffer) (rw (run_is, last) (rw none at h.whole))
+      let size : length (wire (labels_at b start)) ≡ filled + length (slice_range b run (p + 1)) =
+      omega (arith, h.counts, ap (λ ls. length (wire ls)) none, length-between b run (p + 1) (omega (arith, h.on.inside))) in
+      is ∙ rw (← size, slice_range_split b run p (p + 1) h.counts.order (omega arith), last, append_assoc) (rw none at h.whole)
 
   -- a label is passed
-  pub Copies-label : (get_or b p 0 ≡ 0 → ⊥) → get_or b p 0 < 192 → CopiesRuns b start run (p + 1 + get_or b p 0) buffer out filled
-  Copies-label ne less =
-      let label = (here h.on).label ne less in
+  pub Copies-label : 1 ≤ get_or b p 0 → get_or b p 0 < 192 → CopiesRuns b start run (p + 1 + get_or b p 0) buffer out filled
+  Copies-label some less =
+      let (labels, there, on) = (here h.on).label some less in
       let c : ℕ = get_or b p 0 in
-      let form = label_form b p c (labels_at b (p + 1 + c)) refl label.there in
+      let form = label_form b p c (labels_at b (p + 1 + c)) refl there in
       record {
         segment = h.segment;
-        on = label.on;
-        order = omega (arith, h.order);
-        back = h.back;
-        written = h.written;
-        whole = rw (slice_range_split b run p (p + 1 + c) h.order (omega arith), append_assoc, form) (rw label.labels at h.whole);
-        size = h.size;
-        is = h.is;
+        on = on;
+        counts = omega (arith, h.counts, ap (λ ls. length (wire ls)) labels, ap length form, length-append {A = ℕ}, length-between b p (p + 1 + c) there);
+        whole = rw (slice_range_split b run p (p + 1 + c) h.counts.order (omega arith), append_assoc (slice_range b run p), ← append_assoc (slice_range b p (p + 1 + c)), form) (rw labels at h.whole);
       }
 
   -- a pointer is followed, and the run before it is written
   pub Copies-pointer : (to : ℕ) (after : List ℕ) → to ≡ target (get_or b p 0) (get_or b (p + 1) 0) → 192 ≤ get_or b p 0
+      → length (wire (labels_at b start)) ≤ length out
       → after ≡ take filled out ++ (slice_range b run p ++ drop (filled + length (slice_range b run p)) out)
       → CopiesRuns b start to to buffer after (filled + (p - run))
-  Copies-pointer to after to_is high is =
-      let pointer = rw (← to_is) at ((here h.on).pointer high) in
+  Copies-pointer to after to_is high room is =
+      let (labels, there, prior, on) = rw (← to_is) at ((here h.on).pointer high) in
+      let (front, rest) = put_there out after (slice_range b run p) filled (filled + (p - run)) (length (wire (labels_at b start))) is (omega (arith, length-between b run p (omega (arith, h.on.inside)))) (omega (arith, h.counts)) room in
       record {
         segment = to;
-        on = pointer.on;
-        order = omega arith;
-        back = omega arith;
-        written = h.written ++ slice_range b run p;
-        whole = rw (between_none, pointer.labels) (append_assoc h.written (slice_range b run p) (wire (labels_at b p)) ∙ h.whole);
-        size = omega (arith, h.size, Copies-run, length-append h.written (slice_range b run p));
-        is = put_more after _ is;
+        on = on;
+        counts = omega (arith, h.counts, ap (λ ls. length (wire ls)) labels);
+        whole = rw (between_none, ← labels, front, rest, append_assoc) h.whole;
       }
 
 -- what is taken of a buffer that a wire form was put into

@@ -3,7 +3,7 @@ use Rattle.std.proofs.Common.{◌≡◌, ℕ, ◌+◌, ◌*◌, ◌<◌, ◌≤�
 use Rattle.std.specs.List.{AllByRecursion}
 use Rattle.std.proofs.lemmas.List.Edits.{length-between}
 use Rattle.std.proofs.lemmas.List.Sums.{sum_by-cons}
-use Rattle.std.proofs.lemmas.Option.{get_or_from_slice_get, slice_get_within}
+use Rattle.std.proofs.lemmas.Option.{gets}
 use Rattle.dnw_base.specs.Labels.{IsLabel}
 use Rattle.dnw_base.specs.Names.{AreLabels}
 use Rattle.dnw_base.proofs.Wires.{AreLabels_few}
@@ -29,7 +29,7 @@ octets_label b p c ls fit =
 target_below : (b : List ℕ) (p high low : ℕ) → AreBytes b → slice_get b p ≡ Some high → slice_get b (p + 1) ≡ Some low
     → target high low < 16384
 target_below b p high low bytes g g' =
-    omega (arith, bytes p, bytes (p + 1), get_or_from_slice_get b p high 0 g, get_or_from_slice_get b (p + 1) low 0 g')
+    grind (arith, gets, bytes p, bytes (p + 1))
 
 -- each pointer leads before the start of its segment; explicit: the reading
 pub Reads_back : {b : List ℕ} {p s e k : ℕ} {limit : Option ℕ} {ls : List (List ℕ)} → Reads b p s limit ls e k → k ≤ s
@@ -42,35 +42,28 @@ Reads_pointers : {b : List ℕ} {p s e k : ℕ} {limit : Option ℕ} {ls : List 
     → Reads b p s limit ls e k → k ≤ min s 16384
 Reads_pointers bytes (zero_octet w g) = omega arith
 Reads_pointers bytes (label c w g one most fit r) = Reads_pointers bytes r
-Reads_pointers {b} {p} bytes (pointer high low w g least g' prior r) =
-    omega (arith, target_below b p high low bytes g g', Reads_back r)
+Reads_pointers bytes (pointer high low w g least g' prior r) = omega (arith, target_below _ _ high low bytes g g', Reads_back r)
 
 -- the same of a fault, and each label that it counts takes two octets or more
 Stops_counts : {b : List ℕ} {p s n k j : ℕ} {limit : Option ℕ} {error : DecodeError} → AreBytes b → n ≤ 255
     → Stops b p s limit n error k j → (k ≤ min s 16384) × (n + 2 * j ≤ 257)
-Stops_counts {b} {p} bytes fits (pointer high low w g least g' prior f) =
-    let (followed, found) = Stops_counts bytes fits f in
-    (omega (arith, target_below b p high low bytes g g'), found)
-Stops_counts bytes fits (label c w g one most fit short f) =
-    let (followed, found) = Stops_counts bytes short f in (followed, omega arith)
+Stops_counts bytes fits (pointer high low w g least g' prior f) = omega (arith, target_below _ _ high low bytes g g', Stops_counts bytes fits f)
+Stops_counts bytes fits (label c w g one most fit short f) = omega (arith, Stops_counts bytes short f)
 Stops_counts bytes fits f = (omega arith, omega arith)
 
 -- the labels that are read are labels; explicit: the reading
 pub Reads_labels : {b : List ℕ} {p s e k : ℕ} {limit : Option ℕ} {ls : List (List ℕ)} → Reads b p s limit ls e k
     → AllByRecursion IsLabel ls
 Reads_labels (zero_octet w g) = tt
-Reads_labels {b} {p} (label c w g one most fit r) =
-    let size = length_label b p c fit in
-    (record { not_empty = omega arith; not_long = omega arith }, Reads_labels r)
+Reads_labels (label c w g one most fit r) = let size = length_label _ _ c fit in (record { not_empty = omega arith; not_long = omega arith }, Reads_labels r)
 Reads_labels (pointer high low w g least g' prior r) = Reads_labels r
 
 -- a name's own octets lie within the message; explicit: the reading
 pub Reads_own : {b : List ℕ} {p s e k : ℕ} {limit : Option ℕ} {ls : List (List ℕ)} → Reads b p s limit ls e k
     → (p < e) × (e ≤ length b)
-Reads_own {b} {p} (zero_octet w g) = let inside = slice_get_within b p 0 g in (omega arith, omega arith)
-Reads_own (label c w g one most fit r) = let (after, inside) = Reads_own r in (omega arith, inside)
-Reads_own {b} {p} (pointer high low w g least g' prior r) =
-    let inside = slice_get_within b (p + 1) low g' in (omega arith, omega arith)
+Reads_own (zero_octet w g) = grind (arith, gets)
+Reads_own (label c w g one most fit r) = omega (arith, Reads_own r)
+Reads_own (pointer high low w g least g' prior r) = grind (arith, gets)
 
 -- a name has labels, which fit into it, and so few
 pub NameAt_labels : {b : List ℕ} {p e k : ℕ} {ls : List (List ℕ)} → NameAt b p ls e k → AreLabels ls
@@ -81,8 +74,7 @@ pub name_steps : NameSteps
 name_steps b p ls e k bytes name = (Reads_pointers bytes name.reads, AreLabels_few ls (NameAt_labels name))
 
 pub fault_steps : FaultSteps
-fault_steps b p error k j bytes fault =
-    let (followed, found) = Stops_counts bytes (omega arith) fault in (followed, omega arith)
+fault_steps b p error k j bytes fault = omega (arith, Stops_counts bytes (omega arith) fault)
 
 pub own_octets : OwnOctets
 own_octets b p ls e k name = let (after, inside) = Reads_own name.reads in (after, inside, NameAt_labels name)

@@ -1,4 +1,3 @@
-pub mod Steps
 pub mod Unique
 pub mod Back
 pub mod Stand
@@ -6,5 +5,4 @@ pub mod Counts
 pub mod Found
 pub mod Walking
 pub mod Takes
-pub mod Behind
 pub mod Copying

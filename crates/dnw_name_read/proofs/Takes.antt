@@ -22,8 +22,7 @@ StopsAt_unique fault fault' = (Stops_unique fault fault').0
 pub TakesName_moved : (d after : Decoder) (ls : List (List ℕ)) (e k : ℕ) → NameAt d.bytes d.index ls e k → d.index ≤ e
     → after ≡ advanced d (e - d.index) → TakesName d after ls k
 TakesName_moved d after ls e k name le is =
-    let there : d.index + (e - d.index) ≡ e = omega arith in
-    record { end = e; name = name; moved = is ∙ rw there refl }
+    let there : d.index + (e - d.index) ≡ e = omega arith in record { end = e; name = name; moved = is ∙ rw there refl }
 
 -- no reading stops for want of memory
 Stops_not_memory : {b : List ℕ} {p s n k j : ℕ} {limit : Option ℕ} → Stops b p s limit n Memory k j → ⊥

@@ -1,20 +1,20 @@
 -- What a walk knows before and after each element.
-use Rattle.std.proofs.Common.{◌≡◌, ℕ, suc, ◌+◌, ◌≤◌, IsTrue, Option, Some, None, List, [], ◌∷◌, ◌++◌, length, slice_get, slice_range, unwrap_or, refl, sym, ◌∙◌, append_assoc, zero-add, add-zero, arith}
+use Rattle.std.proofs.Common.{◌≡◌, ℕ, suc, ◌+◌, ◌≤◌, IsTrue, Option, Some, None, List, [], ◌∷◌, ◌++◌, length, slice_get, slice_range, unwrap_or, refl, sym, ◌∙◌, append_assoc, zero-add, add-zero, add-one, arith}
 use Rattle.std.proofs.lemmas.List.{length_push, append-nil}
 use Rattle.std.proofs.lemmas.Option.{slice_get_within}
 use Rattle.dnw_name_read.specs.declared.walk.Walked.{Walked}
 use Rattle.dnw_base.specs.Names.{encoded_size}
-use Rattle.dnw_base.proofs.Wires.{encoded_size_push}
+use Rattle.dnw_base.proofs.Wires.{encoded_size_push, no_labels_size}
 use Rattle.dnw_name_read.specs.Reading.{IsWithin, NameAt, zero_octet, label}
 use Rattle.dnw_name_read.specs.Inside.Walking.{IsLabelAt, IsPointerAt, once_followed, GoesOn, Leads, WalksOn}
 use Rattle.dnw_name_read.specs.Inside.Found.{IsFound}
 use Rattle.dnw_name_read.proofs.Counts.{length_label}
 use Rattle.dnw_name_read.proofs.Stand.{Reads_wider}
-use Rattle.dnw_name_read.proofs.Steps.{Reads_jump, Stops_jump}
+use Rattle.dnw_name_read.proofs.Unique.{Reads_jump, Stops_jump}
 use Rattle.dnw_name_read.proofs.Found.{labels_at_NameAt, StandsAt_found}
 
 -- a walk begins at the start, in a segment with any limit
-pub Leads_start : (b : List ℕ) (p : ℕ) (limit : Option ℕ) (passed : List (List ℕ)) → passed ≡ [] → Leads b p p p limit passed
+Leads_start : (b : List ℕ) (p : ℕ) (limit : Option ℕ) (passed : List (List ℕ)) → passed ≡ [] → Leads b p p p limit passed
 Leads_start b p limit passed none = record {
   more = 0;
   own = λ e. e;
@@ -25,13 +25,7 @@ Leads_start b p limit passed none = record {
 pub WalksOn_start : (b : List ℕ) (p end : ℕ) → WalksOn b p p p p (length b) end 1 0 0
 WalksOn_start b p end = record {
   passed = [];
-  passed_size = refl;
-  passed_count = refl;
-  few = omega arith;
-  fits = omega arith;
-  order = omega arith;
-  back = omega arith;
-  inside = omega arith;
+  counts = omega arith;
   whole = λ _. refl;
   leads = Leads_start b p None [] refl;
   goes_on = record { reads = λ ls e k r. rw zero-add r };
@@ -61,16 +55,16 @@ module _ {b : List ℕ} {start first p s limit end size pointers labels : ℕ} (
       → walked.end ≡ unwrap_or (once_followed pointers end) (p + 1) → (IsTrue walked.in_one_piece → s ≡ first)
       → IsFound b start walked labels pointers
   WalksOn-end g walked first_is size_is end_is plain =
-      let fits : encoded_size h.passed ≤ 255 = omega (arith, h.passed_size, h.fits) in
-      let size_of : walked.size ≡ encoded_size h.passed = size_is ∙ sym h.passed_size in
+      let fits : encoded_size h.passed ≤ 255 = omega (arith, h.counts) in
+      let size_of : walked.size ≡ encoded_size h.passed = size_is ∙ sym h.counts.size_is in
       let name : NameAt b start h.passed walked.end pointers = rw end_is (goes-end w h.goes_on g fits) in
       let there : NameAt b walked.first h.passed (h.leads.own (p + 1)) h.leads.more = rw first_is (goes-end w h.leads.goes_on g fits) in
       record {
-        stands = StandsAt_found b start _ _ _ _ (h.passed, name, size_of, sym h.passed_count);
+        stands = StandsAt_found h.passed name size_of (sym h.counts.count_is);
         lies = record {
           end = h.leads.own (p + 1);
           pointers = h.leads.more;
-          stands = StandsAt_found b walked.first _ _ _ _ (h.passed, there, size_of, sym h.passed_count);
+          stands = StandsAt_found h.passed there size_of (sym h.counts.count_is);
           plain = λ whole. let same = plain whole in omega (arith, h.leads.earlier);
         };
         same = labels_at_NameAt _ _ _ _ _ there ∙ sym (labels_at_NameAt _ _ _ _ _ name);
@@ -83,13 +77,7 @@ module _ {b : List ℕ} {start first p s limit end size pointers labels : ℕ} (
       let new : List ℕ = slice_range b (p + 1) (p + 1 + c) in
       record {
         passed = h.passed ++ new ∷ [];
-        passed_size = omega (arith, h.passed_size, encoded_size_push h.passed new, length_label b p c l.there);
-        passed_count = omega (arith, length_push h.passed new, h.passed_count);
-        few = omega (arith, h.few, l.some);
-        fits = short;
-        order = omega (arith, h.order);
-        back = h.back;
-        inside = h.inside;
+        counts = omega (arith, h.counts, l.some, encoded_size_push h.passed new, length_push h.passed new, length_label b p c l.there);
         whole = h.whole;
         leads = record { more = h.leads.more; own = h.leads.own; earlier = h.leads.earlier; goes_on = goes-label w h.leads.goes_on c l };
         goes_on = goes-label w h.goes_on c l;
@@ -99,31 +87,32 @@ module _ {b : List ℕ} {start first p s limit end size pointers labels : ℕ} (
       }
 
   -- a pointer is followed, wherever the first label is then
-  pub WalksOn-pointer : (t e to : ℕ) → IsPointerAt b p s t → e ≡ unwrap_or (once_followed pointers end) (p + 2)
-      → Leads b to t t (Some s) h.passed → WalksOn b start to t t s e size (suc pointers) labels
-  WalksOn-pointer t e to at end_is leads =
-      record {
-        passed = h.passed;
-        passed_size = h.passed_size;
-        passed_count = h.passed_count;
-        few = h.few;
-        fits = h.fits;
-        order = omega arith;
-        back = omega (arith, h.back, at.prior);
-        inside = omega (arith, h.order, slice_get_within b p at.high at.first);
-        whole = λ zero. absurd (omega arith);
-        leads = leads;
-        goes_on = rw (← end_is) at (goes-pointer w h.goes_on t at);
-        stops = λ error k j f.
-            let count : suc pointers + k ≡ pointers + suc k = omega arith in
-            rw count (h.stops error (suc k) j (Stops_jump w at f));
-      }
+  WalksOn-jump : (t e to : ℕ) → IsPointerAt b p s t → e ≡ unwrap_or (once_followed pointers end) (p + 2)
+      → Leads b to t t (Some s) h.passed → WalksOn b start to t t s e size (pointers + 1) labels
+  WalksOn-jump t e to at end_is leads = rw add-one (record {
+    passed = h.passed;
+    counts = omega (arith, h.counts, at.prior, slice_get_within b p at.high at.first);
+    whole = λ zero. absurd (omega arith);
+    leads = leads;
+    goes_on = rw (← end_is) at (goes-pointer w h.goes_on t at);
+    stops = λ error k j f.
+        let count : suc pointers + k ≡ pointers + suc k = omega arith in
+        rw count (h.stops error (suc k) j (Stops_jump w at f));
+  })
 
-  -- it is after a label
-  pub Leads-pointer : (t : ℕ) → IsPointerAt b p s t → Leads b first t t (Some s) h.passed
-  Leads-pointer t at = record {
+  -- it is at the first label now, or after one
+  pub WalksOn-first : (t e : ℕ) → IsPointerAt b p s t → e ≡ unwrap_or (once_followed pointers end) (p + 2)
+      → size ≡ 1 → WalksOn b start t t t s e size (pointers + 1) labels
+  WalksOn-first t e at end_is none = WalksOn-jump t e t at end_is (Leads_start _ _ _ _ ((no_labels_size h.passed).0 (h.counts.size_is ∙ none)))
+
+  pub WalksOn-pointer : (t e : ℕ) → IsPointerAt b p s t → e ≡ unwrap_or (once_followed pointers end) (p + 2)
+      → WalksOn b start first t t s e size (pointers + 1) labels
+  WalksOn-pointer t e at end_is = WalksOn-jump t e first at end_is (record {
     more = suc h.leads.more;
     own = λ e. h.leads.own (p + 2);
     earlier = omega (arith, at.prior, h.leads.earlier);
     goes_on = goes-pointer w h.leads.goes_on t at;
-  }
+  })
+
+-- how a walk begins and goes on
+pub ruleset walking = (WalksOn_start, WalksOn-label, WalksOn-first, WalksOn-pointer)

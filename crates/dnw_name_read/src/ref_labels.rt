@@ -63,6 +63,7 @@ impl<'a> Iterator for RefLabels<'a> {
     }
 
     #[inline]
+    #[tactic(auto, using(crate::proofs::Found::end_more, crate::proofs::Found::label_more))]
     fn next(&mut self) -> Option<&'a [u8]> {
         if self.left == 0 {
             return None;
@@ -84,6 +85,7 @@ impl<'a> ExactSizeIterator for RefLabels<'a> {
 }
 
 /// Returns the offset that the pointers at `start` lead to: that of a label, or of the end of the name.
+#[tactic(auto, using(crate::proofs::Found::pointer_more))]
 fn follow_pointers(message: &[u8], start: usize) -> usize
     requires { MoreAt message.now start }
     ensures { LeadsTo message.now start result }

@@ -43,6 +43,7 @@ pub struct Walked {
 
 /// Walks over the name at `start`, and counts the pointers followed and the labels found.
 #[inline(always)]
+#[tactic(auto, using(crate::proofs::Counts::name_steps, crate::proofs::Counts::fault_steps))]
 pub fn walk(message: &[u8], start: usize, steps: &mut ReadSteps) -> Result<Walked, DecodeError>
     ensures ok { IfOk result (λ walked. IsFound message.now start walked steps.new.labels steps.new.pointers) }
     ensures err { IfErr result (λ e. FaultAt message.now start e steps.new.pointers steps.new.labels) }
@@ -59,6 +60,7 @@ pub fn walk(message: &[u8], start: usize, steps: &mut ReadSteps) -> Result<Walke
 /// Walks over the name at `start`. If it returns `None`, `fault` says why there is no name.
 // The error is not part of the result, and all is inlined, since LLVM takes a large result apart, octet by octet.
 #[inline(always)]
+#[tactic(auto, using(crate::proofs::Walking::walking))]
 fn walk_elements(
     message: &[u8],
     start: usize,
@@ -123,7 +125,7 @@ fn own_end(pointers: usize, end: usize, here: usize) -> usize
 /// Returns the element at an offset, in a segment that began at `segment`, if one may begin there. `limit` is the end of
 /// the message until a pointer is followed, and then the start of the segment before.
 #[inline(always)]
-#[tactic(auto, using(crate::proofs::Steps::stopping))]
+#[tactic(auto, using(crate::proofs::Unique::stopping))]
 fn next_element(
     message: &[u8],
     position: usize,
@@ -152,7 +154,7 @@ fn next_element(
 
 /// Returns the element at an offset, in a segment that began at `segment`.
 #[inline(always)]
-#[tactic(auto, using(crate::proofs::Steps::stopping))]
+#[tactic(auto, using(crate::proofs::Unique::stopping))]
 pub fn element_at(message: &[u8], position: usize, segment: usize) -> Result<Element, DecodeError>
     requires { position < length message.now }
     ensures ok { IfOk result (IsElement message.now position segment) }
@@ -173,7 +175,7 @@ pub fn element_at(message: &[u8], position: usize, segment: usize) -> Result<Ele
 
 /// Returns the label of `len` octets, 1 to 63, whose length octet is at `position`.
 #[inline(always)]
-#[tactic(auto, using(crate::proofs::Steps::stopping))]
+#[tactic(auto, using(crate::proofs::Unique::stopping))]
 fn label_at(
     message: &[u8],
     position: usize,
@@ -195,7 +197,7 @@ fn label_at(
 
 /// Returns the pointer whose first octet is at `position`. It must point before the start of its segment.
 #[inline(always)]
-#[tactic(auto, using(crate::proofs::Steps::stopping))]
+#[tactic(auto, using(crate::proofs::Unique::stopping))]
 fn pointer_at(
     message: &[u8],
     position: usize,

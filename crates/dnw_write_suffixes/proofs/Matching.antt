@@ -8,8 +8,7 @@ use Rattle.dnw_base.proofs.Wires.{encoded_size_cons}
 use Rattle.dnw_name_read.specs.Reading.{NameAt, Reads, Stops, target, zero_octet, label, pointer}
 use Rattle.dnw_name_read.specs.Inside.Walking.{IsLabelAt, IsPointerAt}
 use Rattle.dnw_name_read.proofs.Stand.{Reads_limited, Reads_wider}
-use Rattle.dnw_name_read.proofs.Steps.{Reads_by, step_zero, step_label, step_pointer}
-use Rattle.dnw_name_read.proofs.Unique.{Reads_not_Stops}
+use Rattle.dnw_name_read.proofs.Unique.{Reads_by, Reads_not_Stops, step_zero, step_label, step_pointer}
 
 -- a name with these labels is at p
 abbrev pub HasLabels : List ℕ → ℕ → List (List ℕ) → Type 0

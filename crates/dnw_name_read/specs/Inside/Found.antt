@@ -1,5 +1,5 @@
 -- How a name in a message is kept: the message, and where the name is.
-use Rattle.std.specs.Prelude.{◌≡◌, ℕ, Bool, IsTrue, zero, suc, ◌+◌, ◌<◌, ◌≤◌, ◌==◌, nat_le, if◌then◌else◌, Option, List, [], ◌∷◌, ◌++◌, length, slice_index, slice_range}
+use Rattle.std.specs.Prelude.{◌≡◌, ℕ, Bool, IsTrue, zero, suc, ◌+◌, ◌-◌, ◌<◌, ◌≤◌, ◌==◌, nat_le, if◌then◌else◌, Option, List, [], ◌∷◌, ◌++◌, length, take, drop, slice_index, slice_range}
 use Rattle.dnw_name_read.specs.declared.walk.Walked.{Walked}
 use Rattle.dnw_base.specs.Limits.{max_label, max_labels, pointer_bits}
 use Rattle.dnw_base.specs.Names.{encoded_size, wire}
@@ -47,22 +47,25 @@ pub record ReadsOn (b : List ℕ) (s p : ℕ) : Type 0 where
   pub few : length (labels_at b p) ≤ max_labels
   pub inside : p < length b
 
--- A copy has come to position and put what is written at the front of a buffer, with the octets from run on still to be
--- written: what is written, these octets and the wire form of the labels that follow make the wire form of the whole name.
-pub record CopiesRuns (b : List ℕ) (start run position : ℕ) (buffer out : List ℕ) (filled : ℕ) : Type 0 where
-  pub segment : ℕ
-  pub on : ReadsOn b segment position
-  pub order : run ≤ position
-  pub back : segment ≤ run
-  pub written : List ℕ
-  pub whole : written ++ (slice_range b run position ++ wire (labels_at b position)) ≡ wire (labels_at b start)
-  pub size : filled ≡ length written
-  pub is : out ≡ put buffer written
-
 -- The labels at p are read there.
 pub record MoreAt (b : List ℕ) (p : ℕ) : Type 0 where
   pub segment : ℕ
   pub on : ReadsOn b segment p
+
+-- The offsets and sizes of a copy, as below.
+pub record CopyCounts (b : List ℕ) (start run position filled segment : ℕ) : Type 0 where
+  pub order : run ≤ position
+  pub back : segment ≤ run
+  pub size : filled + (position - run) + length (wire (labels_at b position)) ≡ length (wire (labels_at b start))
+
+-- A copy has come to position and filled the front of a buffer, with the octets from run on still to be written: with these
+-- octets and the wire form of the labels that follow put there, the wire form of the whole name is at the front.
+pub record CopiesRuns (b : List ℕ) (start run position : ℕ) (buffer out : List ℕ) (filled : ℕ) : Type 0 where
+  pub segment : ℕ
+  pub on : ReadsOn b segment position
+  pub counts : CopyCounts b start run position filled segment
+  pub whole : take filled out ++ (slice_range b run position ++ (wire (labels_at b position) ++ drop (length (wire (labels_at b start))) out))
+      ≡ put buffer (wire (labels_at b start))
 
 -- Pointers lead from p to t, the offset of a label or of the end of the name.
 pub record LeadsTo (b : List ℕ) (p t : ℕ) : Type 0 where

@@ -53,18 +53,22 @@ pub record Leads (b : List ℕ) (first p s : ℕ) (limit : Option ℕ) (passed :
   pub earlier : s + more ≤ first
   pub goes_on : GoesOn b first p s limit passed own more
 
--- What a walk from start knows at p, with these counts: each reading and each fault from p on is one from the start.
--- Before the first pointer the limit is the end of the message. After it the limit is the start of the segment before,
--- and the name's own octets end at end.
-pub record WalksOn (b : List ℕ) (start first p s limit end size pointers labels : ℕ) : Type 0 where
-  pub passed : List (List ℕ)
-  pub passed_size : encoded_size passed ≡ size
-  pub passed_count : length passed ≡ labels
+-- The counts and offsets of a walk from start that has passed these labels, at p.
+pub record WalkCounts (b : List ℕ) (start p s limit size pointers labels : ℕ) (passed : List (List ℕ)) : Type 0 where
+  pub size_is : encoded_size passed ≡ size
+  pub count_is : length passed ≡ labels
   pub few : labels + labels + 1 ≤ size
   pub fits : size ≤ max_name
   pub order : s ≤ p
   pub back : pointers + s ≤ start
   pub inside : limit ≤ length b
+
+-- What a walk from start knows at p, with these counts: each reading and each fault from p on is one from the start.
+-- Before the first pointer the limit is the end of the message. After it the limit is the start of the segment before,
+-- and the name's own octets end at end.
+pub record WalksOn (b : List ℕ) (start first p s limit end size pointers labels : ℕ) : Type 0 where
+  pub passed : List (List ℕ)
+  pub counts : WalkCounts b start p s limit size pointers labels passed
   pub whole : pointers ≡ 0 → limit ≡ length b
   pub leads : Leads b first p s (once_followed pointers limit) passed
   pub goes_on : GoesOn b start p s (once_followed pointers limit) passed (λ e. unwrap_or (once_followed pointers end) e) pointers
