@@ -125,30 +125,7 @@ fn entry<E: Files>(
         start: source.place,
     };
     let next = match &step.found {
-        Ok(Found::Entry(Entry::Record(found))) => {
-            add_record(
-                alloc,
-                &source.context,
-                found,
-                source.name.as_str(),
-                source.place.line,
-                &mut lines.records,
-            )?;
-            Next::Entry
-        }
-        Ok(Found::Entry(Entry::Include(include))) => {
-            included(
-                env,
-                alloc,
-                &fault,
-                &source.context,
-                include,
-                depth,
-                &mut lines.errors,
-            )?
-        }
-        Ok(Found::Entry(Entry::Nothing)) => Next::Entry,
-        Ok(_) => Next::End,
+        Ok(found) => add_entry(env, alloc, &source.context, &fault, found, depth, lines)?,
         Err(error) => {
             put_error(alloc, &fault, error, &mut lines.errors)?;
             Next::Entry
@@ -157,6 +134,44 @@ fn entry<E: Files>(
     source.place = faults::moved(source.place, text, step.used);
     source.used = source.used.saturating_add(step.used);
     Ok(next)
+}
+
+/// Appends the line or lines of an entry, and returns what comes next. An error would be at the place of `fault`.
+fn add_entry<E: Files>(
+    env: &E,
+    alloc: Global,
+    context: &Context,
+    fault: &Fault,
+    found: &Found,
+    depth: usize,
+    lines: &mut Lines,
+) -> Result<Next, Refusal> {
+    match found {
+        Found::Entry(Entry::Record(found)) => {
+            add_record(
+                alloc,
+                context,
+                found,
+                fault.file,
+                fault.start.line,
+                &mut lines.records,
+            )?;
+            Ok(Next::Entry)
+        }
+        Found::Entry(Entry::Include(include)) => {
+            included(
+                env,
+                alloc,
+                fault,
+                context,
+                include,
+                depth,
+                &mut lines.errors,
+            )
+        }
+        Found::Entry(Entry::Nothing) => Ok(Next::Entry),
+        _ => Ok(Next::End),
+    }
 }
 
 /// Opens the file of an `$INCLUDE`, or appends why it cannot be read.
