@@ -14,7 +14,7 @@ use dnw_write::encoder::BinEncoder;
 /// the encoder is put back to where it was.
 pub(crate) fn emit_record<N: BinEncodable, D: BinEncodable>(
     owner: &N,
-    fixed: &[u8],
+    fixed: &[u8; 8],
     rdata: &D,
     encoder: &mut BinEncoder<'_>,
 ) -> ProtoResult<()>
@@ -34,7 +34,7 @@ pub(crate) fn emit_record<N: BinEncodable, D: BinEncodable>(
 /// Writes all of these in turn, up to the first that fails.
 fn emit_fields<N: BinEncodable, D: BinEncodable>(
     owner: &N,
-    fixed: &[u8],
+    fixed: &[u8; 8],
     rdata: &D,
     encoder: &mut BinEncoder<'_>,
 ) -> ProtoResult<()>
