@@ -1,4 +1,5 @@
 pub mod CheckCalls
+pub mod Inside
 pub mod PutCalls
 pub mod RecordCalls
 pub mod RecordKeyCalls

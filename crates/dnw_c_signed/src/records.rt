@@ -1,9 +1,10 @@
 //! Records of a message.
-ghost use Rattle.std.specs.Prelude.{◌≡◌, ◌≤◌, ◌∷◌, [], ◌++◌, ℕ, List, length, IfOk, IfErr, OnOk};
+ghost use Rattle.std.specs.Prelude.{◌≡◌, ◌≤◌, ℕ, List, length, IfOk, IfErr};
 ghost use Rattle.dnw_name_read.specs.Reading.{NameAt};
 ghost use Rattle.dnw_record.specs.AnyRecords.{IsCopyOf};
-ghost use Rattle.dnw_record.specs.Records.{FailsRecord, RecordValue};
-ghost use Rattle.dnw_c_signed.specs.RecordCalls.{AreLimitedRecords, FailsRecordAt, FailsToCopyRecord, FailsToRead, FailsToReadNext, HasRecordAt};
+ghost use Rattle.dnw_record.specs.Records.{FailsRecord};
+ghost use Rattle.dnw_c_signed.specs.RecordCalls.{AreLimitedRecords, FailsRecordAt, FailsToCopyRecord, FailsToRead, HasRecordAt};
+ghost use Rattle.dnw_c_signed.specs.Inside.Held.{records_held};
 ghost use Rattle.dnw_c_signed.specs.RecordCalls.{IsNoNextRecord, TakesNextRecord, at_offset, of_rdata};
 
 use dnw_base::decoder::BinDecoder;
@@ -16,14 +17,37 @@ use dnw_record::rdata::RDataError;
 use dnw_record::record::Record;
 use dnw_record::record_ref::{FIXED_SIZE, RecordRef};
 use std::alloc::Global;
+use std::slice;
+
+/// Records, in turn. One alone is held without an allocation.
+#[derive(Drop)]
+pub(crate) enum Records<'r> {
+    One(RecordRef<'r>),
+    More(Vec<RecordRef<'r>>),
+}
+
+impl<'r> Records<'r> {
+    /// Returns the records, in turn.
+    #[inline(always)]
+    pub(crate) fn as_slice(&self) -> &[RecordRef<'r>]
+        ensures { result.now ≡ records_held self.now }
+    {
+        match self {
+            Records::One(one) => slice::from_ref(one),
+            Records::More(list) => list.as_slice(),
+        }
+    }
+}
 
 /// Returns the records from an offset up to the end of the octets. Their owners may follow 65,536 pointers in all.
+// Inlined, since LLVM takes a large result that is returned through memory apart, octet by octet.
+#[inline(always)]
 pub(crate) fn records_from(
     alloc: Global,
     message: &[u8],
     start: usize,
-) -> Result<Vec<RecordRef<'_>>, Failure>
-    ensures ok { IfOk result (λ records. AreLimitedRecords message.now start records.items) }
+) -> Result<Records<'_>, Failure>
+    ensures ok { IfOk result (λ records. AreLimitedRecords message.now start (records_held records)) }
     ensures err { IfErr result (FailsToRead message.now start) }
 {
     if message.len() < start {
@@ -34,23 +58,13 @@ pub(crate) fn records_from(
     let mut left = MAX_POINTERS;
     let mut records = Vec::new(alloc);
     'records: while !reader.is_empty() {
-        push_next(&mut reader, &mut left, &mut records)?;
+        let item = next_record(&mut reader, &mut left)?;
+        if records.is_empty() && reader.is_empty() {
+            return Ok(Records::One(item));
+        }
+        records.push(item)?;
     }
-    Ok(records)
-}
-
-/// Appends the record at the cursor. The pointers of its owner are taken from those that are `left`.
-fn push_next<'r>(
-    reader: &mut BinDecoder<'r>,
-    left: &mut usize,
-    records: &mut Vec<RecordRef<'r>>,
-) -> Result<(), Failure>
-    ensures ok { OnOk result ((r : RecordValue) × TakesNextRecord reader.old left.old r reader.new left.new × (records.new.items ≡ records.old.items ++ r ∷ [])) }
-    ensures err { IfErr result (FailsToReadNext reader.old left.old) }
-{
-    let item = next_record(reader, left)?;
-    records.push(item)?;
-    Ok(())
+    Ok(Records::More(records))
 }
 
 /// Reads the record at the cursor. The pointers of its owner are taken from those that are `left`.

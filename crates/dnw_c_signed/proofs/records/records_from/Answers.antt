@@ -1,27 +1,48 @@
-use Rattle.std.proofs.Common.{◌≡◌, length, ap, arith}
-use Rattle.std.proofs.lemmas.Result.{err_from_is_err_and}
+use Rattle.std.proofs.Common.{◌≡◌, ◌==◌, ℕ, true, List, [], ◌∷◌, ◌++◌, length, inl, inr, refl, sym, ap, ◌∙◌, arith, rules}
+use Rattle.dnw_record.specs.Records.{RecordValue}
+use Rattle.dnw_c_base.proofs.Exits.{exits}
+use Rattle.dnw_c_base.specs.declared.failure.Failure.TheVariants as why
+use Rattle.dnw_c_signed.specs.RecordCalls.{FailsToRead}
 use Rattle.dnw_c_signed.proofs.Following.{all_there, no_more, one_more, takes_on}
 use Rattle.dnw_c_signed.proofs.records.records_from.Goals as goal
 
+no_items : (n : ℕ) (items : List RecordValue) → n ≡ length items → (n == 0) ≡ true → items ≡ []
+no_items n [] len zero = refl
+no_items n (r ∷ items) len zero = let h = rw len at zero in absurd (search (rules, h))
+
 pub records-smaller : goal.records-smaller
 records-smaller c =
-    let (r, takes, grown) = c.in_ok-push_next.ensures.ok in
-    let (onward, within) = takes_on c.records.left c.push_next.new.left takes in
+    let (onward, within) = takes_on c.records.left c.next_record.new.left c.in_ok-item.ensures.ok in
     omega (arith, onward, within, ap length c.records.invariant.same)
 
 pub records-preserved : goal.records-preserved
-records-preserved c =
-    let (r, takes, grown) = c.in_ok-push_next.ensures.ok in
-    one_more r c.push_next.new.records.items c.records.invariant takes grown
+records-preserved c = one_more c.in_ok-item.item c.push.new.self.items c.records.invariant c.in_ok-item.ensures.ok c.in_ok-push.ensures.items
 
-pub returns-in_err-push_next-clause-err : goal.returns-in_err-push_next-clause-err
-returns-in_err-push_next-clause-err c =
-    let p = err_from_is_err_and c.from_residual.result c.from_residual.ensures.1 in
+pub returns-in_err-item-clause-err : goal.returns-in_err-item-clause-err
+returns-in_err-item-clause-err c =
     let left : c.records.reader.index ≡ length c.records.reader.bytes → ⊥ = λ same.
     let empty = c.is_empty.ensures.1 same in
     let full = c.records-test.true in
     cc (empty, full) in
-    rw (p.1, p.2) (no_more c.in_err-push_next.field-0.0 c.records.invariant left c.in_err-push_next.ensures.err)
+    exits (FailsToRead c.args.message.now c.args.start) c.from_residual.result _ c.from_residual.ensures.1
+    (no_more c.in_err-item.field-0.0 c.records.invariant left (inl c.in_err-item.ensures.err))
+
+pub returns-in_err-push-clause-err : goal.returns-in_err-push-clause-err
+returns-in_err-push-clause-err c =
+    let left : c.records.reader.index ≡ length c.records.reader.bytes → ⊥ = λ same.
+    let empty = c.is_empty.ensures.1 same in
+    let full = c.records-test.true in
+    cc (empty, full) in
+    let exit = c.from_residual-in_err-push in
+    exits (FailsToRead c.args.message.now c.args.start) exit.result _ exit.ensures.1
+    (no_more why.NoMemory c.records.invariant left (inr refl))
+
+pub returns-then-is_empty-2-clause-ok : goal.returns-then-is_empty-2-clause-ok
+returns-then-is_empty-2-clause-ok c =
+    let item = c.in_ok-item.item in
+    let none : c.records.records.items ≡ [] = no_items _ c.records.records.items c.records.records.ok.0 (sym c.is_empty-in-records.ensures ∙ c.if-is_empty.true) in
+    let alone = one_more item (item ∷ []) c.records.invariant c.in_ok-item.ensures.ok (sym (ap (λ (rs : List RecordValue). rs ++ item ∷ []) none)) in
+    all_there alone (c.is_empty-then-is_empty.ensures.0 c.if-is_empty-2.true)
 
 pub returns-clause-ok : goal.returns-clause-ok
 returns-clause-ok c = all_there c.records.invariant (c.is_empty.ensures.0 c.records-test.false)
