@@ -6,7 +6,7 @@ use Rattle.std.proofs.lemmas.List.{length-append, append-nil}
 use Rattle.dnw_write.specs.declared.encoder.modes.NameEncoding.{NameEncoding}
 use Rattle.dnw_name_read.proofs.Back.{slice_range_middle}
 use Rattle.dnw_record.specs.declared.wire_record.WireRecord.{WireRecord}
-use Rattle.dnw_record.specs.Parts.{WirePart, bytes_part, name_part, text_part}
+use Rattle.dnw_record.specs.Parts.{WirePart, name_part}
 use Rattle.dnw_write_script.specs.Pieces.{BytesStand, Piece, PieceAt, PiecesLie, filled_in, place_piece, record_piece, wire_piece}
 
 -- What is written at once: a part, or a record by the mode and in canonical form or not.
@@ -163,9 +163,7 @@ upto_filled p (suc k) value other (c ∷ front) back = upto_filled (p + length (
 -- neither a part nor a record is a placeholder
 filled_after : (number value : ℕ) (content : Content) (ps : List Piece) → filled_in (piece_in content ∷ ps) number value ≡ piece_in content ∷ filled_in ps number value
 filled_after number value (of_part (name_part mode name)) ps = refl
-filled_after number value (of_part (bytes_part d)) ps = refl
-filled_after number value (of_part (text_part d)) ps = refl
-filled_after number value (of_record mode canonical r) ps = refl
+filled_after number value content ps = refl
 
 -- The placeholder of a number, which ends there, among the chunks, and their pieces once it has another value.
 abbrev pub Splits : ℕ → ℕ → ℕ → List Chunk → ℕ → Type 0
@@ -177,12 +175,8 @@ pub split_at : (number value p : ℕ) (cs : List Chunk) (end : ℕ) → slice_ge
 split_at number value p [] end here = absurd cc
 split_at number value p (wrote content d ∷ cs) end here =
     let (front, held, back, whole, ends, within, pieces) = split_at number value (p + length d) cs end here in
-    let all = filled_after number value content (map piece_of cs) ∙ ap (λ (ps : List Piece). piece_in content ∷ ps) pieces in
-    (wrote content d ∷ front, held, back, ap (λ (xs : List Chunk). wrote content d ∷ xs) whole, ends, within, all)
-split_at zero value p (place held ∷ cs) end here =
-    let ends : p + 2 ≡ end = cc in
-    ([], held, cs, refl, ends, omega (arith, ends, upto_laid (p + 2) cs), refl)
+    (wrote content d ∷ front, held, back, cc, ends, within, cc (filled_after number value content (map piece_of cs)))
+split_at zero value p (place held ∷ cs) end here = let ends : p + 2 ≡ end = cc in ([], held, cs, refl, ends, omega (arith, upto_laid (p + 2) cs), refl)
 split_at (suc number) value p (place held ∷ cs) end here =
     let (front, other, back, whole, ends, within, pieces) = split_at number value (p + 2) cs end here in
-    let all = ap (λ (ps : List Piece). place_piece held ∷ ps) pieces in
-    (place held ∷ front, other, back, ap (λ (xs : List Chunk). place held ∷ xs) whole, ends, within, all)
+    (place held ∷ front, other, back, cc, ends, within, cc)

@@ -3,7 +3,7 @@ use Rattle.std.proofs.Common.{◌≡◌, ℕ, List, [], ◌∷◌, ◌++◌, len
 use Rattle.std.specs.List.{AllByRecursion}
 use Rattle.std.proofs.lemmas.List.{length-map, take_all, take_at, map-append, take_more}
 use Rattle.std.proofs.lemmas.List.Elements.{recursion_from_All}
-use Rattle.std.proofs.Math.Nat.{le-max_left, le-max_right, max-le}
+use Rattle.std.proofs.Math.Nat.{le-max_left, max-le}
 use Rattle.std.specs.Prelude.{IfErr, IfOk, OnErr}
 use Rattle.std.specs.declared.vec.Vec.{Vec}
 use Rattle.dnw_base.specs.declared.error.ProtoError.{ProtoError}
@@ -12,11 +12,11 @@ use Rattle.dnw_write.specs.EmittedName.{so_far}
 use Rattle.dnw_write.specs.EmittingLaws.{take_all_lem}
 use Rattle.dnw_record.specs.declared.wire_record.WireRecord.{WireRecord}
 use Rattle.dnw_record.specs.WrittenRecords.{EmitsRecord}
-use Rattle.dnw_record.specs.Parts.{WirePart, bytes_part, name_part, text_part}
+use Rattle.dnw_record.specs.Parts.{WirePart, name_part}
 use Rattle.dnw_record.proofs.Bounded.{part_stays_bounded, parts_stay_bounded}
 use Rattle.dnw_base.specs.Limits.{max_message}
 use Rattle.dnw_write_script.specs.declared.script.Reply.{Reply}
-use Rattle.dnw_write_script.specs.Script.{Action, action, item_parts, reserve, set_max, wire_part, write, write_items, write_record}
+use Rattle.dnw_write_script.specs.Script.{Action, action, item_parts, set_max, wire_part, write, write_items}
 use Rattle.dnw_write_script.specs.Pieces.{Account, PiecesLie, after_action, opening, account_from, Slot}
 use Rattle.dnw_write_script.specs.Replies.{RepliesTo, ReplyTo, ReplyToPart}
 use Rattle.dnw_write_script.specs.Runs.{IsUseful, Runs, beginning, RunsStep}
@@ -26,7 +26,7 @@ use Rattle.dnw_write_script.proofs.Standing.{AreUsable, holds_now, sound_upto}
 use Rattle.dnw_write_script.proofs.Stepping.{Goes, Good, record_undone, step, goes, good_beginning}
 use Rattle.dnw_write_script.specs.declared.script.Step.{Step}
 use Rattle.dnw_write_script.specs.Inside.Running.{HoldsPlace, Tracks, RunsTo}
-use Rattle.dnw_write_script.specs.declared.script.Reply.TheVariants.{Done, Refused, NoPlace, Items}
+use Rattle.dnw_write_script.specs.declared.script.Reply.TheVariants.{Done, Items}
 use Rattle.dnw_write_script.specs.Finished.{largest_max, max_after, Finished}
 use Rattle.dnw_write_script.proofs.WireParts.{as_item_parts, as_wire_part}
 use Rattle.dnw_write_script.specs.Ran.{Ran}
@@ -40,11 +40,10 @@ splits : (a : Account) (v w : Encoder) (first rest : List Action) (given others 
     → (m : Encoder) × Runs a v first given m × Runs (account_from a first given) m rest others w
     × (account_from a (first ++ rest) (given ++ others) ≡ account_from (account_from a first given) rest others)
 splits a v w [] rest [] others same h = (v, refl, h, refl)
-splits a v w [] rest (reply ∷ given) others same h = absurd (omega (arith, same))
-splits a v w (action ∷ first) rest [] others same h = absurd (omega (arith, same))
 splits a v w (action ∷ first) rest (reply ∷ given) others same h =
     let (m, before, behind, account) = splits (after_action a action reply) h.0 w first rest given others (omega (arith, same)) h.2 in
     (m, (h.0, h.1, before), behind, account)
+splits a v w first rest given others same h = absurd (omega arith)
 
 -- ---- the laws
 
@@ -56,9 +55,6 @@ module _ (old : List ℕ) (candidates names : ℕ) (actions : List Action) (repl
   pub runs_reply : RepliesTo (opening (length old)) actions replies
   runs_reply = all.0
 
-  usable : AreUsable w.bytes w.candidates
-  usable = (holds_now old all.1.chunks w all.1.good.sound).1
-
   -- a record that is refused then leaves the encoder
   pub undoes : (v : Encoder) (r : WireRecord) (error : ProtoError) → EmitsRecord r w (Err error) v → v ≡ w
   undoes v r error refused = record_undone old all.1.chunks w v r error all.1.good.sound refused
@@ -66,7 +62,7 @@ module _ (old : List ℕ) (candidates names : ℕ) (actions : List Action) (repl
   pub runs_useful : AllByRecursion (IsUseful w) w.candidates
   runs_useful =
       let now : so_far w ≡ w.bytes = take_all_lem w.offset w.bytes all.1.good.sound.end in
-      recursion_from_All (IsUseful w) w.candidates (subst (λ x. AreUsable x w.candidates) (sym now) usable)
+      recursion_from_All (IsUseful w) w.candidates (subst (λ x. AreUsable x w.candidates) (sym now) (holds_now old all.1.chunks w all.1.good.sound).1)
 
 -- The pieces of the first steps are there in the finished bytes.
 spells_first : (old : List ℕ) (candidates names : ℕ) (first rest : List Action) (given others : List Reply) (w : Encoder) → length first ≡ length given
@@ -102,30 +98,23 @@ runs_finish old candidates names actions replies w h =
 -- ---- the length
 
 part_len : (a : Account) (part : WirePart) (len : ℕ) → ReplyToPart a part (Done len) → len ≤ a.max
-part_len a (name_part mode name) len h = h.2
-part_len a (bytes_part bytes) len h = omega (arith, h.0, h.1)
-part_len a (text_part text) len h = omega (arith, h.1.0, h.1.1)
+part_len a (name_part mode name) len h = omega arith
+part_len a part len h = omega arith
 
 -- a step leaves the length, or ends within the maximum, which it may set
 step_len : (a : Account) (action : Action) (reply : Reply) → ReplyTo a action reply
     → ((after_action a action reply).len ≤ max a.len (max_after a.max action)) × ((after_action a action reply).max ≡ max_after a.max action)
-step_len a (write part) (Done len) h = (omega (arith, part_len a (wire_part a.mode part) len h, le-max_right a.len a.max), refl)
-step_len a reserve (Done len) h = (omega (arith, h.0, h.1, le-max_right a.len a.max), refl)
-step_len a (write_record r) (Done len) h = (omega (arith, h.0, le-max_right a.len a.max), refl)
+step_len a (write part) (Done len) h = (omega (arith, part_len a (wire_part a.mode part) len h), refl)
 step_len a (write_items items) (Items count None len) h = (h.2, refl)
 step_len a (write_items items) (Items count (Some error) len) h = (h.2, refl)
-step_len a (set_max size) (Done len) h = (le-max_left a.len size, refl)
+step_len a (set_max size) (Done len) h = (omega arith, refl)
 step_len a (set_max size) reply h = absurd h
-step_len a action (Done len) h = (le-max_left a.len a.max, refl)
-step_len a action (Refused error len) h = (le-max_left a.len a.max, refl)
-step_len a action NoPlace h = (le-max_left a.len a.max, refl)
-step_len a action (Items count error len) h = (le-max_left a.len a.max, refl)
+step_len a action (Done len) h = (omega arith, refl)
+step_len a action reply h = (omega arith, refl)
 
 steps_len : (a : Account) (actions : List Action) (replies : List Reply) → RepliesTo a actions replies
     → (account_from a actions replies).len ≤ max a.len (largest_max a.max actions)
 steps_len a [] [] h = le-max_left a.len 0
-steps_len a [] (reply ∷ replies) h = absurd h
-steps_len a (action ∷ actions) [] h = absurd h
 steps_len a (action ∷ actions) (reply ∷ replies) h =
     let b = after_action a action reply in
     let most = max_after a.max action in
@@ -134,6 +123,7 @@ steps_len a (action ∷ actions) (reply ∷ replies) h =
     let last = largest_max most actions in
     let le : max b.len last ≤ max a.len (max most last) = max-le (omega (arith, most_len)) (omega arith) in
     omega (arith, rest, le)
+steps_len a actions replies h = absurd h
 
 pub runs_stay_bounded : RunsStayBounded
 runs_stay_bounded old candidates names actions replies w h =

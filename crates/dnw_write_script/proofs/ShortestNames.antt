@@ -189,14 +189,12 @@ runs_come : (old : List ℕ) (a : Account) (v : Encoder) (first rest : List Acti
     → Runs a v (first ++ rest) (given ++ others) w
     → (m : Encoder) × Knows old (account_from a first given) m labels many × Runs (account_from a first given) m rest others w
 runs_come old a v [] rest [] others w labels many k are e h = (v, rw (zero-add, zero-add) at k, h)
-runs_come old a v [] rest (reply ∷ given) others w labels many k are e h = absurd (omega (arith, e))
-runs_come old a v (action ∷ first) rest [] others w labels many k are e h = absurd (omega (arith, e))
 runs_come old a v (write (Name name) ∷ first) rest (reply ∷ given) others w labels many k are e h =
     runs_come old (after_action a (write (Name name)) reply) h.0 first rest given others w labels many
     (knows-part old a v _ _ k name reply h.0 _ _ h.1 (omega arith) (omega arith)) are (omega (arith, e)) h.2
 runs_come old a v (set_encoding mode ∷ first) rest (reply ∷ given) others w labels many k are e h =
     runs_come old (after_action a (set_encoding mode) reply) h.0 first rest given others w labels many (knows-mode old a v _ _ k mode reply h.0 h.1) are (omega (arith, e)) h.2
-runs_come old a v (action ∷ first) rest given others w labels many k are e h = absurd are
+runs_come old a v first rest given others w labels many k are e h = absurd (grind arith)
 
 -- ---- the least length
 

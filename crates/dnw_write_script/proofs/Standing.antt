@@ -11,7 +11,7 @@ use Rattle.dnw_base.specs.Limits.{max_message}
 use Rattle.dnw_base.specs.Names.{NameValue, wire, labels_wire, AreLabels}
 use Rattle.dnw_base.proofs.Wires.{length_wire}
 use Rattle.dnw_write_suffixes.specs.Candidates.{Candidate}
-use Rattle.dnw_write.specs.Encoder.{Encoder, Writes, filled, mode_of_rdata, reserved, written, CandidatesPrecede}
+use Rattle.dnw_write.specs.Encoder.{Encoder, Writes, filled, mode_of_rdata, reserved, CandidatesPrecede}
 use Rattle.dnw_write.specs.EmittedName.{Chooses, EmitsName, Share, emitted, form, in_mode, is_compressed, newly_kept}
 use Rattle.dnw_write.specs.EmittingLaws.{frame, frame_same, frames_follow}
 use Rattle.dnw_write.specs.Emitting.{Frame}
@@ -53,13 +53,8 @@ pub usable_precede : (y : List ℕ) (v : Encoder) → length y ≡ v.offset → 
 usable_precede y v size = All-weaker (IsUsefulIn y) (λ c. c.0 < v.offset) (λ c u. let own = Reads_own u.name.reads in omega (arith, own, size)) v.candidates
 
 pub usable_append : (y more : List ℕ) (cs : List Candidate) → AreUsable y cs → AreUsable (y ++ more) cs
-usable_append y more = All-weaker (IsUsefulIn y) (IsUsefulIn (y ++ more)) (λ c u. record {
-  labels = u.labels;
-  bytes = u.bytes;
-  end = u.end;
-  pointers = u.pointers;
-  name = record { reads = Reads_append more u.name.reads; fits = u.name.fits };
-})
+usable_append y more = All-weaker (IsUsefulIn y) (IsUsefulIn (y ++ more)) (λ c u.
+    record { labels = u.labels; bytes = u.bytes; end = u.end; pointers = u.pointers; name = record { reads = Reads_append more u.name.reads; fits = u.name.fits } })
 
 -- one that has the bytes of labels is read as these labels
 pub usable_read : (y : List ℕ) (cs : List Candidate) (offset : ℕ) (ls : List (List ℕ)) → AreUsable y cs → AllByRecursion IsLabel ls
@@ -114,12 +109,7 @@ pub record Lays (v w : Encoder) (P : List ℕ → Type 0) : Type 0 where
   pub there : (y more : List ℕ) → length y ≡ v.offset → AreUsable y v.candidates → P (y ++ (d ++ more)) × AreUsable (y ++ (d ++ more)) w.candidates
 
 lays_map : {v w : Encoder} {P Q : List ℕ → Type 0} → ((x : List ℕ) → P x → Q x) → Lays v w P → Lays v w Q
-lays_map to one = record {
-  d = one.d;
-  bytes = one.bytes;
-  offset = one.offset;
-  there = λ y more size usable. let (p, after) = one.there y more size usable in (to _ p, after);
-}
+lays_map to one = record { d = one.d; bytes = one.bytes; offset = one.offset; there = λ y more size usable. let (p, after) = one.there y more size usable in (to _ p, after) }
 
 lays_then : {v m w : Encoder} {P Q : List ℕ → Type 0} → Lays v m P → Lays m w Q → Lays v w (λ x. P x × Q x)
 lays_then {v} one two = record {

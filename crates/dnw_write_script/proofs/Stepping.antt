@@ -45,28 +45,20 @@ room_least ls (Some share) = omega (arith, length_all ls)
 module _ (a : Account) (v w : Encoder) (at_end : v.offset ≡ length v.bytes) (len_is : a.len ≡ v.offset) (max_is : a.max ≡ v.max_size) where
   reply-bytes : (done : Encoder) (n : ℕ) (reply : Reply) → length done.bytes ≡ v.offset + n → GivesReply (TakesRoom v n done) reply w
       → ReplyToBytes a n reply
-  reply-bytes done n (Done len) size h = (omega (arith, h.0.0), omega (arith, size, h.1, ap (λ (x : Encoder). length x.bytes) h.0.1))
-  reply-bytes done n (Refused Memory len) size h = (omega (arith, h.0.0), omega (arith, h.1, ap (λ (x : Encoder). length x.bytes) h.0.2))
-  reply-bytes done n (Refused (MaxBufferSizeExceeded max) len) size h =
-      (omega (arith, h.0.0), h.0.1 ∙ sym max_is, omega (arith, h.1, ap (λ (x : Encoder). length x.bytes) h.0.2))
-  reply-bytes done n (Refused error len) size h = absurd h.0
-  reply-bytes done n reply size h = absurd h
+  reply-bytes done n (Refused Memory len) size h = grind arith
+  reply-bytes done n reply size h = grind arith
 
   reply-writes : (d : List ℕ) (reply : Reply) → GivesReply (Writes v d) reply w → ReplyToBytes a (length d) reply
   reply-writes d reply h = reply-bytes (written v d) (length d) reply (sym (frame_written v d at_end).ends) h
 
   reply-text : (text : List ℕ) (reply : Reply) → GivesReply (WritesText v text) reply w → ReplyToText a (length text) reply
-  reply-text text (Refused (CharacterDataTooLong max size) len) h =
-      (h.0.0, h.0.1, h.0.2, omega (arith, h.1, ap (λ (x : Encoder). length x.bytes) h.0.3))
-  reply-text text (Refused error len) h = (h.0.0, reply-writes (length text ∷ text) (Refused error len) (h.0.1, h.1))
-  reply-text text (Done len) h = (h.0.0, reply-writes (length text ∷ text) (Done len) (h.0.1, h.1))
-  reply-text text reply h = absurd h
+  reply-text text (Refused (CharacterDataTooLong max size) len) h = grind arith
+  reply-text text reply h = grind (arith, reply-writes (length text ∷ text) reply)
 
   refused-name : (mode : NameEncoding) (u : Encoder) (ls : List (List ℕ)) (choice : Option Share) (size len : ℕ) (error : ProtoError) → encoded_size ls ≡ size
       → len ≡ length v.bytes → EmitsAs (in_encoding v mode) ls choice (Err error) u → ReplyToName a size (Refused error len)
-  refused-name mode u ls choice size len Memory is same h = (omega (arith, is, h.0, room_least ls choice), omega (arith, same))
-  refused-name mode u ls choice size len (MaxBufferSizeExceeded max) is same h = (omega (arith, is, h.0, room_most ls choice), h.1 ∙ sym max_is, omega (arith, same))
-  refused-name mode u ls choice size len error is same h = absurd h
+  refused-name mode u ls choice size len Memory is same h = omega (arith, room_least ls choice)
+  refused-name mode u ls choice size len error is same h = grind (arith, room_most ls choice)
 
   reply-part : (part : WirePart) (reply : Reply) → GivesReply (EmitsWirePart part v) reply w → ReplyToPart a part reply
   reply-part (bytes_part d) reply h = reply-writes d reply h
@@ -95,10 +87,8 @@ module _ (a : Account) (v w : Encoder) (at_end : v.offset ≡ length v.bytes) (l
 -- why an item is refused that begins at the length
 refused_item : (a : Account) (count start : ℕ) (item : Item) (rest : List Item) (cause : ProtoError) → Refuses a.max start (item_parts a.mode item) cause
     → ItemFails a count start (item ∷ rest) (list_error count cause)
-refused_item a count start item rest (MaxBufferSizeExceeded size) h = (refl, h.1)
-refused_item a count start item rest (CharacterDataTooLong max n) h = h
 refused_item a count start item rest Memory h = tt
-refused_item a count start item rest cause h = absurd h
+refused_item a count start item rest cause h = grind arith
 
 -- ---- account and encoder
 
@@ -163,9 +153,8 @@ goes_parts old cs a v w parts len good h len_is =
 
 as_wire : (part : Part) (v w : Encoder) (reply : Reply) → v.offset ≡ length v.bytes → GivesReply (EmitsPart part v) reply w
     → GivesReply (EmitsWirePart (wire_part v.encoding part) v) reply w
-as_wire part v w (Done len) e h = (as_wire_part part v w (Ok tt) e h.0, h.1)
-as_wire part v w (Refused error len) e h = (as_wire_part part v w (Err error) e h.0, h.1)
-as_wire part v w reply e h = absurd h
+as_wire part v w (Done len) e h = (as_wire_part part v w _ e h.0, h.1)
+as_wire part v w reply e h = grind (arith, as_wire_part part v w)
 
 -- a refused part changes nothing
 pub part_same : (part : Part) (v w : Encoder) (error : ProtoError) → v.offset ≡ length v.bytes → EmitsPart part v (Err error) w → w ≡ v
@@ -256,8 +245,7 @@ module _ (old : List ℕ) (cs : List Chunk) (a : Account) (v w : Encoder) (good 
         (omega (arith, ends, h.0.1.0, good.agree.max), h.0.1.1 ∙ sym good.agree.max, omega (arith, h.1, ap (λ (x : Encoder). length x.bytes) same, good.sound.end, good.len_is)),
         goes_same old cs b v w spent_now same,
       )
-  fill-split number value end (Refused error len) r h = absurd h.0.1
-  fill-split number value end reply r h = absurd h
+  fill-split number value end reply r h = grind arith
 
   step-fill : (number value : ℕ) (slot : Option ℕ) (reply : Reply) → open_place number a.places ≡ slot → RunsFill v slot value reply w
       → ReplyToFill a slot reply × Goes old cs (after_action a (fill number value) reply) w
@@ -348,13 +336,12 @@ module _ (old : List ℕ) (cs : List Chunk) (a : Account) (v w : Encoder) (good 
 pub goes : (old : List ℕ) (cs : List Chunk) (a : Account) (v w : Encoder) (actions : List Action) (replies : List Reply) → Good old cs a v
     → Runs a v actions replies w → RepliesTo a actions replies × Goes old cs (account_from a actions replies) w
 goes old cs a v w [] [] good h = (tt, goes_same old cs a v w good h)
-goes old cs a v w [] (reply ∷ replies) good h = absurd h
-goes old cs a v w (action ∷ actions) [] good h = absurd h
 goes old cs a v w (action ∷ actions) (reply ∷ replies) good h =
     let (given, one) = step old cs a v h.0 good action reply h.1 in
     let b = after_action a action reply in
     let (others, rest) = goes old one.chunks b h.0 w actions replies one.good h.2 in
     ((given, others), goes_then old cs b (account_from b actions replies) h.0 w one rest)
+goes old cs a v w actions replies good h = absurd h
 
 -- a new encoder at the end of its buffer agrees with the opening account on no chunks
 pub good_beginning : (old : List ℕ) (candidates names : ℕ) → Good old [] (opening (length old)) (beginning old candidates names)

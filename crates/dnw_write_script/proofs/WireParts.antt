@@ -1,7 +1,7 @@
 -- Parts and items of a script are parts of a message.
-use Rattle.std.proofs.Common.{◌≡◌, ℕ, List, [], ◌∷◌, length, map, Ok, Err, unwrap_or, inl, inr, refl, sym, ap, ◌∙◌, subst}
+use Rattle.std.proofs.Common.{◌≡◌, ℕ, List, [], ◌∷◌, length, map, Ok, Err, unwrap_or, inl, inr, refl, sym, ap, ◌∙◌, subst, arith}
 use Rattle.std.specs.Int.{w16, w32, to_be_bytes, cast_unsigned}
-use Rattle.dnw_base.specs.declared.error.ProtoError.TheVariants.{CharacterDataTooLong, MaxBufferSizeExceeded, Memory}
+use Rattle.dnw_base.specs.declared.error.ProtoError.TheVariants.{CharacterDataTooLong, Memory}
 use Rattle.dnw_write.specs.declared.encoder.modes.NameEncoding.{NameEncoding}
 use Rattle.dnw_write.specs.Encoder.{Encoder, Writes, WritesText}
 use Rattle.dnw_write.specs.Emitting.{Outcome, InTurn}
@@ -17,15 +17,13 @@ use Rattle.dnw_write_script.specs.ItemFrames.{frame_item, frame_part}
 bytes_in : (mode : NameEncoding) (d : List ℕ) (v m : Encoder) (outcome : Outcome) → Writes (in_encoding v mode) d outcome m
     → Writes v d outcome (in_encoding m v.encoding)
 bytes_in mode d v m (Ok tt) h = (h.0, ap (λ (x : Encoder). in_encoding x v.encoding) h.1)
-bytes_in mode d v m (Err Memory) h = (h.0, h.1, ap (λ (x : Encoder). in_encoding x v.encoding) h.2)
-bytes_in mode d v m (Err (MaxBufferSizeExceeded size)) h = (h.0, h.1, ap (λ (x : Encoder). in_encoding x v.encoding) h.2)
-bytes_in mode d v m (Err error) h = absurd h
+bytes_in mode d v m (Err Memory) h = grind (arith, λ (e : m ≡ in_encoding v mode). ap (λ (x : Encoder). in_encoding x v.encoding) e)
+bytes_in mode d v m (Err error) h = grind (arith, λ (e : m ≡ in_encoding v mode). ap (λ (x : Encoder). in_encoding x v.encoding) e)
 
 text_in : (mode : NameEncoding) (d : List ℕ) (v m : Encoder) (outcome : Outcome) → WritesText (in_encoding v mode) d outcome m
     → WritesText v d outcome (in_encoding m v.encoding)
-text_in mode d v m (Ok tt) h = (h.0, bytes_in mode (length d ∷ d) v m (Ok tt) h.1)
 text_in mode d v m (Err (CharacterDataTooLong max size)) h = (h.0, h.1, h.2, ap (λ (x : Encoder). in_encoding x v.encoding) h.3)
-text_in mode d v m (Err error) h = (h.0, bytes_in mode (length d ∷ d) v m (Err error) h.1)
+text_in mode d v m outcome h = (h.0, bytes_in mode (length d ∷ d) v m outcome h.1)
 
 as_part : (mode : NameEncoding) (part : Part) (v m : Encoder) (outcome : Outcome) → EmitsPart part (in_encoding v mode) outcome m
     → EmitsWirePart (wire_part mode part) v outcome (in_encoding m v.encoding)
