@@ -156,11 +156,8 @@ impl<'m> OptionData<'m> {
             }
             OptionData::ReportChannel(name) => append_name(out, name)?,
             OptionData::ZoneVersion(Some(version)) => {
-                append_both(
-                    out,
-                    &[version.labels, version.version_type],
-                    version.version,
-                )?;
+                let front = [version.labels, version.version_type];
+                append_both(out, &front, version.version)?;
             }
             OptionData::Unknown { code: _, octets } => out.extend_from_slice(octets)?,
             OptionData::Expire(None)
