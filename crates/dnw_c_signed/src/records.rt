@@ -19,6 +19,8 @@ use dnw_record::record_ref::{FIXED_SIZE, RecordRef};
 use std::alloc::Global;
 use std::slice;
 
+// What returns records is inlined, since LLVM takes a large result that is returned through memory apart, octet by octet.
+
 /// Records, in turn. One alone is held without an allocation.
 #[derive(Drop)]
 pub(crate) enum Records<'r> {
@@ -40,7 +42,6 @@ impl<'r> Records<'r> {
 }
 
 /// Returns the records from an offset up to the end of the octets. Their owners may follow 65,536 pointers in all.
-// Inlined, since LLVM takes a large result that is returned through memory apart, octet by octet.
 #[inline(always)]
 pub(crate) fn records_from(
     alloc: Global,
@@ -68,6 +69,7 @@ pub(crate) fn records_from(
 }
 
 /// Reads the record at the cursor. The pointers of its owner are taken from those that are `left`.
+#[inline(always)]
 pub(crate) fn next_record<'r>(
     reader: &mut BinDecoder<'r>,
     left: &mut usize,
@@ -105,6 +107,7 @@ fn owner_pointers(message: &[u8], start: usize, item: &RecordRef<'_>) -> Result<
 }
 
 /// Returns the record at an offset.
+#[inline(always)]
 pub(crate) fn record_at(message: &[u8], start: usize) -> Result<RecordRef<'_>, Failure>
     ensures ok { IfOk result (HasRecordAt message.now start) }
     ensures err { IfErr result (FailsRecordAt message.now start) }
@@ -116,6 +119,7 @@ pub(crate) fn record_at(message: &[u8], start: usize) -> Result<RecordRef<'_>, F
 }
 
 /// Reads the record at an offset that is not past the octets.
+#[inline(always)]
 fn read_at(message: &[u8], start: usize) -> Result<RecordRef<'_>, DecodeError>
     requires { start ≤ length message.now }
     ensures ok { IfOk result (HasRecordAt message.now start) }

@@ -172,6 +172,8 @@ fn check_end(reader: &BinDecoder<'_>, first: usize, count: usize) -> Result<(), 
 
 /// Appends the field of this kind and number that is read at the cursor, and returns how many pointers it follows. If it fails, a
 /// part may be appended.
+// Inlined, since LLVM takes a large result that is returned through memory apart, octet by octet.
+#[inline(always)]
 fn put_field(
     kind: Kind,
     field: usize,

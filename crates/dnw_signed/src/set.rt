@@ -30,6 +30,7 @@ pub(crate) struct SetHead {
 }
 
 /// Appends what each record begins with. If it fails, a part may be appended.
+#[inline(always)]
 pub(crate) fn append_head(
     owner: &NameRef<'_>,
     head: &SetHead,
@@ -58,6 +59,7 @@ fn append_owner(owner: &NameRef<'_>, labels: u8, out: &mut Vec<u8>) -> Result<()
 }
 
 /// Appends the owner with these labels, of which there are `count`, as it was signed. If it fails, a part may be appended.
+#[inline(always)]
 fn append_last(
     own: WireLabels<'_>,
     count: u8,
