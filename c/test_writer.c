@@ -269,7 +269,10 @@ static void puts_edns(void)
     EXPECT(dnw_edns_read(message, writer.len, 0, &read) == DNW_DONE);
     EXPECT(read.is_present && !read.dnssec_ok && read.version == 0xB2 && read.max_payload == 512);
     EXPECT(read.response_code == 0xA13 && read.options_len == 0);
+    EXPECT(edns(0, 512, false, BYTES(""), 0) == DNW_DUPLICATE_EDNS && writer.len == 23);
     begin_new(ROOM);
+    EXPECT(edns(0, 512, true, BYTES("\000\003\000\001"), 0) == DNW_CUT_OPTION && writer.len == 12);
+    EXPECT(edns(0, 512, true, BYTES("\000\003\000"), 0) == DNW_CUT_OPTION && writer.len == 12);
     EXPECT(edns(0, 65535, true, BYTES("\000\003\000\000"), 0) == DNW_DONE);
     EXPECT(dnw_edns_read(message, writer.len, 0, &read) == DNW_DONE);
     EXPECT(read.is_present && read.dnssec_ok && read.max_payload == 65535 && read.options_offset == 23 && read.options_len == 4);
@@ -285,6 +288,44 @@ static void puts_edns(void)
         if (is_padded)
             EXPECT(message[48] == 0 && message[49] == 12 && message[50] * 256u + message[51] == total - least);
     }
+}
+
+static uint32_t opt_set(const uint8_t *data, size_t len)
+{
+    keep();
+    return done(dnw_writer_set(message, ROOM, DNW_SECTION_ADDITIONALS, false, BYTES(ROOT), DNW_TYPE_OPT, 1232, 0, data, len, &writer));
+}
+
+/* Adds an OPT record by one of the functions that can. */
+static uint32_t add_opt(int way)
+{
+    switch (way) {
+    case 0:
+        return edns(0, 1232, false, BYTES(""), 0);
+    case 1:
+        return record(ROOM, DNW_SECTION_ADDITIONALS, BYTES(ROOT), DNW_TYPE_OPT, BYTES(""));
+    case 2:
+        return opt_set(BYTES("\000\000"));
+    default:
+        keep();
+        return done(dnw_writer_last(message, ROOM, 0, BYTES(ROOT), DNW_TYPE_OPT, 1232, 0, BYTES(""), &writer));
+    }
+}
+
+/* A message has one OPT record at most, whichever functions add it. */
+static void keeps_one_opt(void)
+{
+    for (int first = 0; first < 3; first++) {
+        for (int second = 0; second < 4; second++) {
+            begin_new(ROOM);
+            EXPECT(add_opt(first) == DNW_DONE && writer.len == 23);
+            EXPECT(add_opt(second) == DNW_DUPLICATE_EDNS && writer.len == 23 && message[11] == 1);
+            EXPECT(address(ROOM, DNW_SECTION_ADDITIONALS, BYTES(WWW)) == DNW_DONE);
+        }
+    }
+    begin_new(ROOM);
+    EXPECT(opt_set(BYTES("\000\000\000\000")) == DNW_DUPLICATE_EDNS && writer.len == 12 && message[11] == 0);
+    EXPECT(add_opt(3) == DNW_DONE && add_opt(3) == DNW_BAD_ITEM);
 }
 
 #define ASKS(flags, counts) "\253\315" flags counts
@@ -340,6 +381,7 @@ static void begins_queries(void)
     expect_message(BYTES(ASKS("\000\000", "\000\001\000\000\000\000\000\001") QUESTION SAYS("\000", "\000")));
     EXPECT(query(ROOM, true, BYTES(ROOT), 1) == DNW_DONE && message[20] == 2 && message[21] == 0 && writer.max_size == ROOM);
     EXPECT(query(ROOM, true, BYTES(ROOT), 513) == DNW_DONE && message[20] == 2 && message[21] == 1);
+    EXPECT(add_opt(0) == DNW_DUPLICATE_EDNS);
     /* no room for the OPT record, the question and the header, and no name */
     const struct dnw_writer before = writer;
     EXPECT(query(43, true, BYTES(WWW), 1232) == DNW_MESSAGE_TOO_LONG);
@@ -502,6 +544,12 @@ static void refuses_lists(void)
     EXPECT(list(BYTES(RR("\003", ROOT) RR("\202", ROOT)), ROOM, ROOM) == DNW_BAD_ITEM);
     EXPECT(list(BYTES(OPT_RR RR("\003", ROOT)), ROOM, ROOM) == DNW_BAD_ITEM);
     EXPECT(list(BYTES(OPT_RR "\000"), ROOM, 0) == DNW_BAD_ITEM);
+    /* a second OPT record */
+    EXPECT(list(BYTES(OPT_RR OPT_RR), ROOM, ROOM) == DNW_DUPLICATE_EDNS);
+    EXPECT(list(BYTES("\003" PUT_OPT OPT_RR), ROOM, ROOM) == DNW_DUPLICATE_EDNS);
+    EXPECT(list(BYTES("\003" PUT_OPT "\203" PUT_OPT), ROOM, ROOM) == DNW_DUPLICATE_EDNS);
+    /* one that is left out is none */
+    EXPECT(lists(BYTES("\203\000" FIELDS("\051") "\000\001\007" OPT_RR), 23, WANTED(HEADER("\000\000\000\000\000\000\000\001") PUT_OPT), false));
 }
 
 int main(void)
@@ -514,6 +562,7 @@ int main(void)
     holds_back();
     adds_sets();
     puts_edns();
+    keeps_one_opt();
     begins_replies();
     begins_queries();
     takes_any_writer();

@@ -189,6 +189,16 @@ static void add_item(const struct call *call, uint32_t section, struct part data
     memcpy(item->data, data.bytes, data.len);
 }
 
+/* Whether one of the items is an OPT record. */
+static bool has_opt(void)
+{
+    for (size_t i = 0; i < item_count; i++) {
+        if (items[i].section > 1 && items[i].type == DNW_TYPE_OPT)
+            return true;
+    }
+    return false;
+}
+
 /* Returns the failure that a call has before room is asked for, and adds its items as if it had none. */
 static uint32_t failure_of(const struct call *call)
 {
@@ -208,8 +218,9 @@ static uint32_t failure_of(const struct call *call)
     if (call->kind != SET) {
         if (!are_data(call->class, call->type, call->data.bytes, call->data.len))
             return DNW_BAD_DATA;
+        bool is_second = call->type == DNW_TYPE_OPT && has_opt();
         add_item(call, section, call->data);
-        return in_order ? DNW_DONE : DNW_BAD_ITEM;
+        return !in_order ? DNW_BAD_ITEM : is_second ? DNW_DUPLICATE_EDNS : DNW_DONE;
     }
     struct part rest = call->data;
     while (rest.len > 0) {
@@ -221,6 +232,8 @@ static uint32_t failure_of(const struct call *call)
             return DNW_BAD_DATA;
         if (!in_order)
             return DNW_BAD_ITEM;
+        if (call->type == DNW_TYPE_OPT && has_opt())
+            return DNW_DUPLICATE_EDNS;
         add_item(call, section, data);
     }
     return DNW_DONE;
@@ -308,9 +321,12 @@ static void spoil(struct part *rest)
         writer.max_size = number % 2 == 0 ? number % 1024 : SIZE_MAX - number;
     } else if (what == 4) {
         writer.owner = (uint16_t)number;
+    } else if (what == 5) {
+        writer.has_opt = (uint8_t)number;
+        is_sound = false;
     } else {
         for (size_t i = number >> 23; i < 512; i += 1 + number % 7)
-            writer.hints[i] = (uint16_t)(what == 5 ? number : number % 400 + i % 64);
+            writer.hints[i] = (uint16_t)(what == 6 ? number : number % 400 + i % 64);
     }
 }
 

@@ -866,6 +866,7 @@ struct dnw_writer {
     size_t reserved; /* how many of them are held back */
     uint16_t owner;
     uint8_t rank;
+    uint8_t has_opt;
     uint16_t hints[512];
 };
 
@@ -885,6 +886,7 @@ struct dnw_writer {
     DNW_MESSAGE_CUT       if the message or the buffer has fewer than DNW_HEADER_SIZE octets, or its header counts 65535
                           items of the section;
     DNW_BAD_ITEM          if a later section has items already, or after dnw_writer_last;
+    DNW_DUPLICATE_EDNS    if it is an OPT record, and the message has one already (RFC 6891, section 6.1.1);
     DNW_MESSAGE_TOO_LONG  if the message would be longer than `max_size`, the buffer, or 65535 octets, less the octets
                           that are held back. */
 uint32_t dnw_writer_begin(uint8_t *message, size_t message_size, size_t max_size, uint16_t id, uint16_t flags,
@@ -942,9 +944,10 @@ uint32_t dnw_writer_release(size_t octets, struct dnw_writer *writer);
 /* Adds an OPT record to the Additional section (RFC 6891, section 6.1), and gives back `held` octets first: the size of
    the largest message that the sender accepts, at least 512 octets (less is written as 512); the high eight bits of the
    response code, `response_code >> 4`; the version, which is 0; DO; and the options, each two octets of code, two of
-   length, and as many octets as that. The options are not checked. If `block` is not 0, the option for padding is added
-   after them (RFC 7830), so that the octets of the message, with those that are still held back, are a multiple of
-   `block` (RFC 8467), or of 512 if it is more; but not if there is no room for that. It fails by the rules above. */
+   length, and as many octets as that. If `block` is not 0, the option for padding is added after them (RFC 7830), so that
+   the octets of the message, with those that are still held back, are a multiple of `block` (RFC 8467), or of 512 if it
+   is more; but not if there is no room for that. It fails with DNW_CUT_OPTION if the options end within an option, and
+   otherwise by the rules above. */
 uint32_t dnw_writer_edns(uint8_t *message, size_t message_size, size_t held, uint16_t max_payload, uint8_t rcode_high,
                          uint8_t version, bool dnssec_ok, const uint8_t *options, size_t options_len, uint16_t block,
                          struct dnw_writer *writer);
@@ -978,8 +981,9 @@ enum dnw_list_item {
 
    It fails with DNW_BAD_ITEM if the list is not one of items in this order; with DNW_NO_ROOM if `message_size` is less
    than DNW_HEADER_SIZE; with DNW_MESSAGE_TOO_LONG if the header, a question or an item with DNW_LIST_LAST does not fit;
-   and with DNW_BAD_DATA if the data of a record are not those of its type, unless it is left out since an earlier set of
-   its section was. Then `result` is unchanged, and the buffer may hold anything. */
+   and with DNW_BAD_DATA if the data of a record are not those of its type, or with DNW_DUPLICATE_EDNS if it is a second
+   OPT record, unless it is left out since an earlier set of its section was. Then `result` is unchanged, and the buffer
+   may hold anything. */
 uint32_t dnw_message_write(const uint8_t *items, size_t items_len, size_t max_size, uint16_t id, uint16_t flags,
                            uint8_t *message, size_t message_size, struct dnw_packed *result);
 

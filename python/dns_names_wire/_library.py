@@ -140,6 +140,7 @@ class Writer(ctypes.Structure):
         ("reserved", c_size_t),
         ("owner", c_uint16),
         ("rank", c_uint8),
+        ("has_opt", c_uint8),
         ("hints", c_uint16 * 512),
     ]
 

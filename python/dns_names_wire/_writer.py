@@ -5,7 +5,7 @@ from typing import Iterable, Optional, Tuple
 
 from . import _checks
 from ._data import put_pairs
-from ._errors import DuplicateEdns, check
+from ._errors import check
 from ._library import Writer, library
 from ._library import Edns as ReadEdns
 from ._messages import Edns, Header, Message, Question, edns_of_reply
@@ -58,7 +58,7 @@ class MessageWriter:
             raise _checks.wrong_type("buffer", "a bytearray is", buffer)
         self._room = (c_char * len(self._buffer)).from_buffer(self._buffer)
         self._state, self._owed_edns = Writer(), None  # type: Writer, Optional[Edns]
-        self._code, self._has_edns = 0, False
+        self._code = 0
 
     @classmethod
     def query(
@@ -89,7 +89,6 @@ class MessageWriter:
         check(library.dnw_writer_query(
             room, len(room), most, number, bool(recursion_desired), wire, len(wire), *codes, size, byref(writer._state)
         ))  # fmt: skip
-        writer._has_edns = payload is not None
         return writer
 
     @classmethod
@@ -195,8 +194,6 @@ class MessageWriter:
         """Writes the OPT record: of a reply, into the octets that are held back for it; the default is that of
         `Message.reply`. If `block` is not 0, the message is padded to a multiple of so many octets (RFC 7830; RFC 8467).
         Raises `DuplicateEdns` if there is one already."""
-        if self._has_edns:
-            check(DuplicateEdns.number)
         own = edns or self._owed_edns or Edns()
         options = put_pairs(own.options)
         numbers = (
@@ -208,7 +205,7 @@ class MessageWriter:
             self._room, len(self._room), held, *numbers, options, len(options), _checks.number("block", block, _MOST),
             byref(self._state),
         ))  # fmt: skip
-        self._owed_edns, self._has_edns = None, True
+        self._owed_edns = None
 
     def last(self, record: Record, *, held: int = 0) -> None:
         """Writes a record after which no item may follow, as TSIG (RFC 8945, section 5.1), and gives back octets that are

@@ -199,7 +199,7 @@ pub(crate) struct Writer {
     reserved: usize,
     owner: u16,
     rank: u8,
-    edns: u8,
+    has_opt: u8,
     hints: [u16; 512],
 }
 

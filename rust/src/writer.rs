@@ -39,8 +39,9 @@ pub enum Need {
 ///
 /// Each item is added whole or not at all, and the message is complete after each call. An item that fails leaves the
 /// message unchanged, but for TC in [`set`](MessageWriter::set). It fails with `MessageTooLong` if there is no room for
-/// it, with `BadItem` if a later section has items already or if it comes after [`last`](MessageWriter::last), and with
-/// `BadData` if its data are not those of its type.
+/// it, with `BadItem` if a later section has items already or if it comes after [`last`](MessageWriter::last), with
+/// `DuplicateEdns` if it is a second OPT record (RFC 6891, section 6.1.1), and with `BadData` if its data are not those
+/// of its type.
 ///
 /// ```
 /// use dns_names_wire::{Class, Header, Message, MessageWriter, Name, RData, RecordType, Section};
@@ -338,7 +339,7 @@ impl<'m> MessageWriter<'m> {
     ///
     /// # Errors
     ///
-    /// See [`MessageWriter`]. A second OPT record is not noticed.
+    /// `CutOption` if the options end within an option; otherwise see [`MessageWriter`].
     ///
     /// ```
     /// use dns_names_wire::{Edns, Header, Message, MessageWriter, ResponseCode};

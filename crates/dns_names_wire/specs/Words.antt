@@ -233,16 +233,17 @@ pub use Rattle.dnw_message_writer.specs.ReadItems.{AreNameAlone, AreOctetsAlone,
 pub use Rattle.dnw_message_writer.specs.ReadItems.{OctetsAreRead, ReadMessagesHaveItems, counts_of_items, item_count}
 pub use Rattle.dnw_message_writer.specs.SizeLaws.{QuestionsTakeNoMore, RecordsTakeNoMore, whole_pieces, whole_question, whole_record}
 pub use Rattle.dnw_message_writer.specs.CompressedNames.{Compresses, FindsHint, FindsNoHint, former_hint, kept_hints, later_hint, MayPointTo, pointer_octets, put_at, PutsForm, PutsPast, spelled}
-pub use Rattle.dnw_message_writer.specs.ContentLaws.{GivenRecordsAreAdded}
-pub use Rattle.dnw_message_writer.specs.Copying.{AreASet, AreOfOneSet, CopiesHeld, CopiesMessage, CopiesQuestions, CopiesSections, CopiesSets, CopyFits, CopyGoesPast, EndsBefore}
+pub use Rattle.dnw_message_writer.specs.ContentLaws.{given_form, GivenRecordsAreAdded}
+pub use Rattle.dnw_message_writer.specs.Copying.{AreASet, AreOfOneSet, CopiesHeld, CopiesMessage, CopiesQuestions, CopiesSections, CopiesSets, copied_past, CopyFits, EndsBefore}
 pub use Rattle.dnw_message_writer.specs.Copying.{FailsHeld, FailsQuestions, FailsSections, FailsSets, FailsToAddCopy, FailsToAddQuery, FailsToCopyMessage, StopsAmong, StopsInSet}
 pub use Rattle.dnw_message_writer.specs.Copying.{copied_form, held_from, held_in, is_answer, is_held, is_missing, own_octets, query_form, sets_of}
 pub use Rattle.dnw_message_writer.specs.CopyLaws.{AreItemsOf, AreTheFirst, CopiesHold, IsCopiedQuestion, IsCopiedRecord}
 pub use Rattle.dnw_message_writer.specs.Data.{AreOfData}
-pub use Rattle.dnw_message_writer.specs.Edns.{AddsOpt, FailsToAddOpt, opt_data, opt_size, padding, ttl_of_edns}
+pub use Rattle.dnw_message_writer.specs.Edns.{AddsOpt, AddsOptItem, FailsToAddOpt, FailsToAddOptItem, opt_data, opt_size, padding, ttl_of_edns}
 pub use Rattle.dnw_message_writer.specs.Hints.{slot_of}
-pub use Rattle.dnw_message_writer.specs.Items.{fields_of_record, IsNear, IsOwner, IsQuestion, IsRecord, QuestionGoesPast, RecordGoesPast}
-pub use Rattle.dnw_message_writer.specs.Listed.{data_form, FailsListed, FailsToAddData, ListsData}
+pub use Rattle.dnw_message_writer.specs.Items.{fields_of_record, IsNear, IsOwner, IsQuestion, IsRecord, ItemForm, ItemPast, QuestionGoesPast, RecordGoesPast}
+pub use Rattle.dnw_message_writer.specs.Items.{opt_code, question_form, question_past, record_form, record_past}
+pub use Rattle.dnw_message_writer.specs.Listed.{data_form, data_past, FailsListed, FailsToAddData, ListsData}
 pub use Rattle.dnw_message_writer.specs.NameLaws.{CompressedNamesTakeNoMore, KeepsSettled, WrittenNamesAreRead}
 pub use Rattle.dnw_message_writer.specs.Pieces.{ArePieces, GoesPast, IsPiece}
 pub use Rattle.dnw_message_writer.specs.Queries.{AddsSize, BeginsQuery, FailsToAddSize, FailsToQuery, query_flags}
@@ -251,6 +252,6 @@ pub use Rattle.dnw_message_writer.specs.Replies.{AsksOf, BeginsReplyTo, FailsToR
 pub use Rattle.dnw_message_writer.specs.Sections.{offset_of_count, rank}
 pub use Rattle.dnw_message_writer.specs.Sets.{cut_off, CutsOff, FailsToAddSet}
 pub use Rattle.dnw_message_writer.specs.SizeLaws.{HintsAtLabels, HintsBegin, IsNearNext, NearOwnersTakeTwo, QuestionsAreNear, RecordsAreNear}
-pub use Rattle.dnw_message_writer.specs.States.{added, AddsItem, AddsLastItem, BeginsMessage, FailsToAdd, IsLimit, IsOfMessage, ItemForm, released, room_of}
+pub use Rattle.dnw_message_writer.specs.States.{added, AddsItem, AddsLastItem, BeginsMessage, FailsToAdd, IsLimit, IsOfMessage, IsSingle, released, room_of}
 pub use Rattle.dnw_message_writer.specs.declared.section.Section.TheVariants.{Additionals, Answers, Authorities, Queries}
 pub use Rattle.dnw_message_writer.specs.declared.state.WriterState.{WriterState}

@@ -1,8 +1,10 @@
 -- Records of a set that are added in turn: what stays of the message, and what is taken back.
-use Rattle.std.proofs.Common.{◌≡◌, ◌≢◌, ◌⊎◌, ℕ, ◌+◌, ◌-◌, ◌<◌, ◌≤◌, Bool, true, false, true≢false, List, length, take, slice_range, refl, sym, ap, ◌∙◌, subst, inl, inr, arith}
+use Rattle.std.proofs.Common.{◌≡◌, ◌≢◌, ◌⊎◌, ℕ, ◌-◌, ◌<◌, ◌≤◌, Bool, true, false, true≢false, List, length, take, slice_range, refl, sym, ap, ◌∙◌, subst, inl, inr, arith}
 use Rattle.dnw_base.specs.Decoder.{Decoder, advanced}
 use Rattle.dnw_record.specs.Records.{RecordValue, TakesRecord}
 use Rattle.dnw_message_writer.specs.CompressedNames.{put_at}
+use Rattle.dnw_message_writer.specs.Hints.{slot_of}
+use Rattle.dnw_message_writer.specs.Items.{question_form, record_form}
 use Rattle.dnw_message_writer.specs.Sections.{offset_of_count, rank}
 use Rattle.dnw_message_writer.specs.States.{AddsItem}
 use Rattle.dnw_message_writer.specs.declared.section.Section.TheVariants as Sections
@@ -17,7 +19,6 @@ use Rattle.dnw_c_base.specs.declared.failure.Failure.TheVariants as why
 use Rattle.std.proofs.lemmas.List.{length-take}
 use Rattle.dnw_c_messages.specs.declared.writing.LeftOut.{LeftOut}
 use Rattle.dnw_c_messages.specs.ListCalls.{AddsListed, AddsRecords, AddsRun, BeginsWithOctet, FailsToAddListed, FailsToAddRecords, FailsToGo, Goes, GoesFrom, IsCutRun, IsNext, IsOctetOf, IsTakenBack, AddsHeldItem, LacksListed, Progress, TakesListed, TakesQuestion, further, here, set_key, last, last_octet, left_out, left_with, more, no_room, none, progress, progress_at, question, set}
-use Rattle.dnw_c_messages.specs.WriterCalls.{question_form, record_form}
 use Rattle.dnw_base.specs.DnsClasses.{class_code}
 use Rattle.dnw_base.specs.RecordTypes.{type_code}
 use Rattle.dnw_c_messages.proofs.Items.{IsOnward, begins_again, key_inside, key_is, key_next, key_size, onward_trans, question_onward, record_onward}
@@ -56,7 +57,7 @@ module _ (octet : ℕ) (s : Section) (key : List ℕ) (first : Decoder) (w : Wri
         record {
           run = more d after v u n o x g.run next takes (pieces, has, added);
           further = omega (arith, further, ap (λ (x : WriterState). x.end) state);
-          kept = kept_on s m w.end (record_form x.owner (type_code x.record_type) (class_code x.class) x.ttl pieces) v u n o whole further g.size g.kept added;
+          kept = kept_on s m w.end (record_form slot_of x.owner (type_code x.record_type) (class_code x.class) x.ttl pieces) v u n o whole further g.size g.kept added;
           size = size ∙ g.size;
           whole = inl whole;
           max_same = ap (λ (x : WriterState). x.max_size) state ∙ g.max_same;
@@ -183,7 +184,7 @@ pub not_so : {P : Type 0} (r : Bool) → (P → r ≡ true) → r ≡ false → 
 not_so r so isnt p = absurd (true≢false (sym (so p) ∙ isnt))
 
 -- what was added is taken back
-pub taken_state : (w v after : WriterState) → after ≡ record v { end = w.end; owner = w.owner; rank = w.rank } → v.max_size ≡ w.max_size
+pub taken_state : (w v after : WriterState) → after ≡ record v { end = w.end; owner = w.owner; rank = w.rank; has_opt = w.has_opt } → v.max_size ≡ w.max_size
     → v.reserved ≡ w.reserved → after ≡ record w { hints = v.hints }
 taken_state w v after is most held = is ∙ rw (most, held) refl
 
@@ -246,7 +247,7 @@ gone_on {list} {w} {m} {p} g q goes =
     record { goes = further p q g.goes goes; same = same; inside = omega (arith, inside, ap length same) }
 
 pub question_goes : (d after : Decoder) (w v : WriterState) (m n : List ℕ) (left : LeftOut)
-    → ((name : List (List ℕ)) × (t : ℕ) × (c : ℕ) × TakesQuestion d name t c after × AddsItem Sections.Queries (question_form name t c) w m v n)
+    → ((name : List (List ℕ)) × (t : ℕ) × (c : ℕ) × TakesQuestion d name t c after × AddsItem Sections.Queries (question_form slot_of name t c) w m v n)
     → Goes (progress d w m left) (progress after v n left)
 question_goes d after w v m n left (name, t, c, takes, adds) = question name t c takes adds refl
 

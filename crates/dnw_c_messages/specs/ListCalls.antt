@@ -3,7 +3,7 @@
 -- A list has an octet for each item, and then the item: a question, or a record, as they stand in a message (RFC 1035, sections 4.1.2
 -- and 4.1.3). The octet is the number of the sections before the item's own; for a record that may be left out 128 more; and for one of
 -- the last items of the message, which are never left out, 64 more.
-use Rattle.std.specs.Prelude.{◌≡◌, ◌≢◌, ◌<◌, ◌≤◌, ◌⊎◌, ◌==◌, ◌||◌, nat_lt, ℕ, ◌+◌, ◌-◌, ◌%◌, min, if◌then◌else◌, Bool, true, false, Some, List, length, take, drop, slice_get, replicate, Result, MatchResult}
+use Rattle.std.specs.Prelude.{◌≡◌, ◌≢◌, ◌<◌, ◌≤◌, ◌⊎◌, ◌==◌, ◌||◌, nat_lt, ℕ, ◌+◌, ◌-◌, ◌%◌, min, if◌then◌else◌, Bool, false, Some, List, length, take, slice_get, Result, MatchResult}
 use Rattle.std.specs.Int.{w16, from_be_bytes}
 use Rattle.dnw_base.specs.declared.error.DecodeError.{DecodeError}
 use Rattle.dnw_base.specs.Decoder.{Decoder, HasLeft, next_bytes, advanced}
@@ -15,21 +15,20 @@ use Rattle.dnw_name.specs.Decodable.{StopsSomehow}
 use Rattle.dnw_record.specs.Records.{FailsRecord, RecordValue, TakesRecord, data_octets}
 use Rattle.dnw_message_read.specs.Headers.{header_size}
 use Rattle.dnw_message_writer.specs.Hints.{slot_of}
-use Rattle.dnw_message_writer.specs.Items.{QuestionGoesPast}
+use Rattle.dnw_message_writer.specs.Items.{question_form, question_past, record_form, record_past}
 use Rattle.dnw_message_writer.specs.Sections.{rank}
 use Rattle.dnw_message_writer.specs.Sets.{cut_off}
-use Rattle.dnw_message_writer.specs.States.{AddsItem, BeginsMessage, FailsToAdd, released}
+use Rattle.dnw_message_writer.specs.States.{AddsItem, BeginsMessage, released}
 use Rattle.dnw_message_writer.specs.declared.pieces.Piece.{Piece}
 use Rattle.dnw_message_writer.specs.declared.section.Section.{Section}
 use Rattle.dnw_message_writer.specs.declared.section.Section.TheVariants as Sections
-use Rattle.dnw_message_writer.specs.declared.section.WriteError.{WriteError}
 use Rattle.dnw_message_writer.specs.declared.section.WriteError.TheVariants.{NoRoom}
 use Rattle.dnw_message_writer.specs.declared.state.WriterState.{WriterState}
 use Rattle.dnw_c_base.specs.Offsets.{at_offset}
 use Rattle.dnw_c_base.specs.declared.failure.Failure.{Failure}
 use Rattle.dnw_c_base.specs.declared.failure.Failure.TheVariants as why
 use Rattle.dnw_c_messages.specs.Packed.{is_cut}
-use Rattle.dnw_c_messages.specs.WriterCalls.{FailsToAddItem, HasPiecesOf, IsWholeData, of_write, question_form, record_form, record_past}
+use Rattle.dnw_c_messages.specs.WriterCalls.{FailsToAddItem, HasPiecesOf, IsWholeData}
 use Rattle.dnw_c_messages.specs.declared.packed.PackedMessage.{PackedMessage}
 use Rattle.dnw_c_messages.specs.declared.writing.LeftOut.{LeftOut}
 
@@ -131,14 +130,14 @@ IsBadList list =
 abbrev pub AddsListed : Section → RecordValue → WriterState → List ℕ → WriterState → List ℕ → Type 0
 AddsListed s x before old after new =
     (pieces : List Piece) × HasPiecesOf (class_code x.class) (type_code x.record_type) (data_octets x) pieces
-    × AddsItem s (record_form x.owner (type_code x.record_type) (class_code x.class) x.ttl pieces) before old after new
+    × AddsItem s (record_form slot_of x.owner (type_code x.record_type) (class_code x.class) x.ttl pieces) before old after new
 
 -- It is not: its data are not those of its class and type, or no item may follow, or it goes past the limit.
 abbrev pub FailsToAddListed : Section → RecordValue → WriterState → List ℕ → Failure → Type 0
 FailsToAddListed s x before old failure =
     ((IsWholeData (class_code x.class) (type_code x.record_type) (data_octets x) → ⊥) × (failure ≡ why.BadData))
     ⊎ ((pieces : List Piece) × HasPiecesOf (class_code x.class) (type_code x.record_type) (data_octets x) pieces
-    × FailsToAddItem s (record_past x.owner (type_code x.record_type) (class_code x.class) x.ttl pieces) before old failure)
+    × FailsToAddItem s (record_past slot_of x.owner (type_code x.record_type) (class_code x.class) x.ttl pieces) before old failure)
 
 -- the octets of an item up to its class, by which the records of a set are known
 abbrev pub set_key : Decoder → RecordValue → List ℕ
@@ -193,10 +192,6 @@ IsTakenBack w m v after new = (after ≡ record w { hints = v.hints }) × (take 
 
 -- ---- messages
 
--- A question goes past the limit.
-abbrev pub QuestionPast : List (List ℕ) → ℕ → List ℕ → ℕ → List ℕ → Type 0
-QuestionPast name = λ limit b near hints. QuestionGoesPast slot_of limit b near hints name
-
 -- One of the last items is added, with as many of the octets that are held back as it has with its names whole.
 abbrev pub AddsHeldItem : RecordValue → WriterState → List ℕ → WriterState → List ℕ → Type 0
 AddsHeldItem x before old after new = AddsListed Sections.Additionals x (released (whole_item x) before) old after new
@@ -223,7 +218,7 @@ left_with s octet left = record { closed = rank s; missing = left.missing || is_
 -- room, the later records of its section are left out too.
 pub data Goes (p q : Progress) : Type 0 where
   question : (name : List (List ℕ)) (query_type class : ℕ) → TakesQuestion p.items name query_type class q.items
-      → AddsItem Sections.Queries (question_form name query_type class) p.state p.message q.state q.message
+      → AddsItem Sections.Queries (question_form slot_of name query_type class) p.state p.message q.state q.message
       → q.left ≡ p.left → Goes p q
   set : (octet : ℕ) (s : Section) → IsOctetOf octet s → rank s ≢ p.left.closed
       → AddsRecords p.items octet s p.state p.message q.items q.state q.message → q.left ≡ p.left → Goes p q
@@ -240,7 +235,7 @@ abbrev pub FailsToGo : Progress → Failure → Type 0
 FailsToGo p failure =
     (IsNoItem p.items × (failure ≡ why.BadItem))
     ⊎ ((name : List (List ℕ)) × (query_type : ℕ) × (class : ℕ) × (after : Decoder) × TakesQuestion p.items name query_type class after
-    × FailsToAddItem Sections.Queries (QuestionPast name) p.state p.message failure)
+    × FailsToAddItem Sections.Queries (question_past slot_of name) p.state p.message failure)
     ⊎ ((octet : ℕ) × (s : Section) × (after : Decoder) × (v : WriterState) × IsOctetOf octet s × (rank s ≢ p.left.closed)
     × FailsToAddRecords p.items octet s p.state p.message after v failure × (failure ≢ why.MessageTooLong))
     ⊎ ((octet : ℕ) × (s : Section) × IsOctetOf octet s × IsCutRun octet s p.items p.state p.message × (failure ≡ why.BadItem))

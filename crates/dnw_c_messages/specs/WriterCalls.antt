@@ -9,14 +9,14 @@ use Rattle.dnw_data.specs.Table.{fields_of}
 use Rattle.dnw_message_read.specs.Headers.{header_size}
 use Rattle.dnw_message_writer.specs.Data.{AreOfData}
 use Rattle.dnw_message_writer.specs.Hints.{slot_of}
-use Rattle.dnw_message_writer.specs.Items.{IsQuestion, IsRecord, QuestionGoesPast, RecordGoesPast, fields_of_record}
+use Rattle.dnw_message_writer.specs.Items.{ItemPast, question_form, question_past, record_form, record_past}
 use Rattle.dnw_message_writer.specs.Sections.{rank}
-use Rattle.dnw_message_writer.specs.States.{AddsItem, AddsLastItem, BeginsMessage, FailsToAdd, ItemForm, released}
+use Rattle.dnw_message_writer.specs.States.{AddsItem, AddsLastItem, BeginsMessage, FailsToAdd, released}
 use Rattle.dnw_message_writer.specs.declared.pieces.Piece.{Piece}
 use Rattle.dnw_message_writer.specs.declared.section.Section.{Section}
 use Rattle.dnw_message_writer.specs.declared.section.Section.TheVariants as Sections
 use Rattle.dnw_message_writer.specs.declared.section.WriteError.{WriteError}
-use Rattle.dnw_message_writer.specs.declared.section.WriteError.TheVariants.{NoMessage, NoRoom, OutOfOrder}
+use Rattle.dnw_message_writer.specs.declared.section.WriteError.TheVariants.{CutOption, NoMessage, NoRoom, OutOfOrder, SecondOpt}
 use Rattle.dnw_message_writer.specs.declared.state.WriterState.{WriterState}
 
 -- ---- what a call changes
@@ -26,6 +26,8 @@ abbrev pub of_write : WriteError → Failure
 of_write NoMessage = why.MessageCut
 of_write OutOfOrder = why.BadItem
 of_write NoRoom = why.MessageTooLong
+of_write SecondOpt = why.DuplicateEdns
+of_write CutOption = why.CutOption
 
 -- The state and the octets of the message are unchanged.
 abbrev pub StaysAsItWas : WriterState → List ℕ → WriterState → List ℕ → Type 0
@@ -38,8 +40,8 @@ AddsOr Adds Fails before old after new result =
     MatchResult result (λ _. Adds before old after new) (λ failure. Fails before old failure × StaysAsItWas before old after new)
 
 -- An item that has a form is not added to a section, and that is why.
-abbrev pub FailsToAddItem : Section → (ℕ → List ℕ → ℕ → List ℕ → Type 0) → WriterState → List ℕ → Failure → Type 0
-FailsToAddItem s goes_past before old failure = (error : WriteError) × FailsToAdd s goes_past before old error × (failure ≡ of_write error)
+abbrev pub FailsToAddItem : Section → ItemPast → WriterState → List ℕ → Failure → Type 0
+FailsToAddItem s past before old failure = (error : WriteError) × FailsToAdd s past before old error × (failure ≡ of_write error)
 
 -- ---- the header
 
@@ -51,19 +53,16 @@ BeginsOr id flags max_size before old after new result =
 
 -- ---- questions
 
-abbrev pub question_form : List (List ℕ) → ℕ → ℕ → ItemForm
-question_form name query_type class = λ b near hints octets after. IsQuestion slot_of b near hints name query_type class octets after
-
 -- A question is added: a name, which is given by its wire form, a type and a class.
 abbrev pub AddsQuestionOf : List ℕ → ℕ → ℕ → WriterState → List ℕ → WriterState → List ℕ → Type 0
 AddsQuestionOf form query_type class before old after new =
-    (name : List (List ℕ)) × IsFormOf form name × AddsItem Sections.Queries (question_form name query_type class) before old after new
+    (name : List (List ℕ)) × IsFormOf form name × AddsItem Sections.Queries (question_form slot_of name query_type class) before old after new
 
 abbrev pub FailsToAddQuestion : List ℕ → WriterState → List ℕ → Failure → Type 0
 FailsToAddQuestion form before old failure =
     IsNoForm form failure
     ⊎ ((name : List (List ℕ)) × IsFormOf form name
-    × FailsToAddItem Sections.Queries (λ limit b near hints. QuestionGoesPast slot_of limit b near hints name) before old failure)
+    × FailsToAddItem Sections.Queries (question_past slot_of name) before old failure)
 
 -- ---- records
 
@@ -92,25 +91,17 @@ IsNotGiven form record_type class octets failure =
     IsNoForm form failure
     ⊎ ((owner : List (List ℕ)) × IsFormOf form owner × (IsWholeData class record_type octets → ⊥) × (failure ≡ why.BadData))
 
-abbrev pub record_form : List (List ℕ) → ℕ → ℕ → ℕ → List Piece → ItemForm
-record_form owner record_type class ttl pieces =
-    λ b near hints octets after. IsRecord slot_of b near hints owner (fields_of_record record_type class ttl) pieces octets after
-
-abbrev pub record_past : List (List ℕ) → ℕ → ℕ → ℕ → List Piece → ℕ → List ℕ → ℕ → List ℕ → Type 0
-record_past owner record_type class ttl pieces =
-    λ limit b near hints. RecordGoesPast slot_of limit b near hints owner (fields_of_record record_type class ttl) pieces
-
 -- A record that is given is added to a section.
 abbrev pub AddsGiven : Section → List ℕ → ℕ → ℕ → ℕ → List ℕ → WriterState → List ℕ → WriterState → List ℕ → Type 0
 AddsGiven s form record_type class ttl octets before old after new =
     (owner : List (List ℕ)) × (pieces : List Piece) × IsGiven form record_type class octets owner pieces
-    × AddsItem s (record_form owner record_type class ttl pieces) before old after new
+    × AddsItem s (record_form slot_of owner record_type class ttl pieces) before old after new
 
 abbrev pub FailsToAddGiven : Section → List ℕ → ℕ → ℕ → ℕ → List ℕ → WriterState → List ℕ → Failure → Type 0
 FailsToAddGiven s form record_type class ttl octets before old failure =
     IsNotGiven form record_type class octets failure
     ⊎ ((owner : List (List ℕ)) × (pieces : List Piece) × IsGiven form record_type class octets owner pieces
-    × FailsToAddItem s (record_past owner record_type class ttl pieces) before old failure)
+    × FailsToAddItem s (record_past slot_of owner record_type class ttl pieces) before old failure)
 
 -- So it is, if the section is given by its number.
 abbrev pub AddsRecord : ℕ → List ℕ → ℕ → ℕ → ℕ → List ℕ → WriterState → List ℕ → WriterState → List ℕ → Type 0
@@ -128,7 +119,7 @@ FailsToAddRecord number form record_type class ttl octets before old failure =
 abbrev pub AddsLastRecord : ℕ → List ℕ → ℕ → ℕ → ℕ → List ℕ → WriterState → List ℕ → WriterState → List ℕ → Type 0
 AddsLastRecord held form record_type class ttl octets before old after new =
     (owner : List (List ℕ)) × (pieces : List Piece) × IsGiven form record_type class octets owner pieces
-    × AddsLastItem (record_form owner record_type class ttl pieces) (released held before) old after new
+    × AddsLastItem (record_form slot_of owner record_type class ttl pieces) (released held before) old after new
 
 abbrev pub FailsToAddLast : ℕ → List ℕ → ℕ → ℕ → ℕ → List ℕ → WriterState → List ℕ → Failure → Type 0
 FailsToAddLast held form record_type class ttl octets before old failure =

@@ -265,5 +265,7 @@ pub(crate) fn of_write(error: &WriteError) -> Failure
         WriteError::NoMessage => Failure::MessageCut,
         WriteError::OutOfOrder => Failure::BadItem,
         WriteError::NoRoom => Failure::MessageTooLong,
+        WriteError::SecondOpt => Failure::DuplicateEdns,
+        WriteError::CutOption => Failure::CutOption,
     }
 }

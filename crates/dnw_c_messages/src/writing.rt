@@ -3,7 +3,9 @@ ghost use Rattle.std.specs.Prelude.{◌≡◌, ◌≢◌, ◌<◌, ◌≤◌, �
 ghost use Rattle.dnw_base.specs.Decoder.{Decoder};
 ghost use Rattle.dnw_record.specs.Records.{RecordValue};
 ghost use Rattle.dnw_message_writer.specs.CompressedNames.{put_at};
+ghost use Rattle.dnw_message_writer.specs.Hints.{slot_of};
 ghost use Rattle.dnw_message_writer.specs.Inside.Turns.{KeptCount, count_octets};
+ghost use Rattle.dnw_message_writer.specs.Items.{question_form, question_past};
 ghost use Rattle.dnw_message_writer.specs.Sections.{offset_of_count, rank};
 ghost use Rattle.dnw_message_writer.specs.Sets.{cut_off};
 ghost use Rattle.dnw_message_writer.specs.States.{AddsItem};
@@ -11,8 +13,8 @@ ghost use Rattle.dnw_message_writer.specs.declared.section.Section.TheVariants a
 ghost use Rattle.dnw_message_writer.specs.declared.state.WriterState.{WriterState};
 ghost use Rattle.dnw_c_base.specs.Results.{Returns};
 ghost use Rattle.dnw_c_base.specs.declared.failure.Failure.TheVariants.{BadItem};
-ghost use Rattle.dnw_c_messages.specs.ListCalls.{AddsHeldItem, AddsListed, AddsRecords, BeginsWithOctet, FailsToAddLastItem, FailsToAddListed, FailsToAddRecords, FailsToGo, Goes, GoesFrom, IsCutRun, IsNoItem, IsOctetOf, LacksListed, Progress, QuestionPast, TakesListed, TakesQuestion, WritesListOr, last_octet, left_with, progress, progress_at, question_octet};
-ghost use Rattle.dnw_c_messages.specs.WriterCalls.{FailsToAddItem, StaysAsItWas, question_form};
+ghost use Rattle.dnw_c_messages.specs.ListCalls.{AddsHeldItem, AddsListed, AddsRecords, BeginsWithOctet, FailsToAddLastItem, FailsToAddListed, FailsToAddRecords, FailsToGo, Goes, GoesFrom, IsCutRun, IsNoItem, IsOctetOf, LacksListed, Progress, TakesListed, TakesQuestion, WritesListOr, last_octet, left_with, progress, progress_at, question_octet};
+ghost use Rattle.dnw_c_messages.specs.WriterCalls.{FailsToAddItem, StaysAsItWas};
 
 use crate::listed::{
     LAST, QUESTION, held_for, is_next, octet_at, part, read_question, read_record, section_after,
@@ -45,6 +47,7 @@ struct Before {
     end: usize,
     owner: u16,
     rank: u8,
+    has_opt: u8,
     count: [u8; 2],
 }
 
@@ -86,6 +89,7 @@ fn write(
         reserved: 0,
         owner: 0,
         rank: 0,
+        has_opt: 0,
         hints: [0; SLOTS],
     };
     begin(message, max_size, id, flags, &mut writer)?;
@@ -155,11 +159,11 @@ fn write_question(
     requires { BeginsWithOctet decoder.old question_octet }
     ensures ok { OnOk result ((name : List (List ℕ)) × (query_type : ℕ) × (class : ℕ)
         × TakesQuestion decoder.old name query_type class decoder.new
-        × AddsItem Sections.Queries (question_form name query_type class) writer.old message.old writer.new message.new) }
+        × AddsItem Sections.Queries (question_form slot_of name query_type class) writer.old message.old writer.new message.new) }
     ensures err { IfErr result (λ failure. (IsNoItem decoder.old × (failure ≡ BadItem))
         ⊎ ((name : List (List ℕ)) × (query_type : ℕ) × (class : ℕ) × (after : Decoder)
         × TakesQuestion decoder.old name query_type class after
-        × FailsToAddItem Sections.Queries (QuestionPast name) writer.old message.old failure)) }
+        × FailsToAddItem Sections.Queries (question_past slot_of name) writer.old message.old failure)) }
 {
     let question = read_question(decoder)?;
     let mut room = [0; MAX_NAME];
@@ -210,6 +214,7 @@ fn write_set(
         end: writer.end,
         owner: writer.owner,
         rank: writer.rank,
+        has_opt: writer.has_opt,
         count: two_at(message, 4 + 2 * usize::from(section.rank())),
     };
     match add_records(octet, section, decoder, message, writer) {
@@ -292,13 +297,14 @@ fn add_listed(
 
 /// Takes back what was added of a set. The hints stay: each is checked when it is used.
 fn take_back(section: Section, before: Before, message: &mut [u8], writer: &mut WriterState)
-    ensures state { writer.new ≡ record writer.old { end = before.end; owner = before.owner; rank = before.rank } }
+    ensures state { writer.new ≡ record writer.old { end = before.end; owner = before.owner; rank = before.rank; has_opt = before.has_opt } }
     ensures count { ((12 ≤ before.end) × (12 ≤ length message.old) × (message.new ≡ put_at message.old (offset_of_count section) before.count))
         ⊎ (((before.end < 12) ⊎ (length message.old < 12)) × (message.new ≡ message.old)) }
 {
     writer.end = before.end;
     writer.owner = before.owner;
     writer.rank = before.rank;
+    writer.has_opt = before.has_opt;
     if before.end >= FIRST_ITEM && message.len() >= FIRST_ITEM {
         let at = 4 + 2 * usize::from(section.rank());
         message[at..at + 2].copy_from_slice(&before.count);

@@ -6,10 +6,10 @@ use Rattle.std.proofs.lemmas.Nat.{from_be_bytes-to_be_bytes_2}
 use Rattle.dnw_message_writer.specs.CompressedNames.{put_at}
 use Rattle.dnw_message_writer.specs.ContentLaws.{QuestionsAreAdded, RecordsAreAdded}
 use Rattle.dnw_message_writer.specs.Contents.{AddedItems, AddedQuestion, AddedRecord, HoldsItems, KeepsItems, ReadsAsQuestion, ReadsAsRecord, StayInTurn, StaysRead, items_of_section, with_question, with_records}
-use Rattle.dnw_message_writer.specs.Items.{IsQuestion, IsRecord, fields_of_record}
+use Rattle.dnw_message_writer.specs.Items.{ItemForm, question_form, record_form}
 use Rattle.dnw_message_writer.specs.NameLaws.{KeepsSettled}
 use Rattle.dnw_message_writer.specs.Sections.{offset_of_count, rank}
-use Rattle.dnw_message_writer.specs.States.{AddsItem, ItemForm, count_in_header, with_one_more}
+use Rattle.dnw_message_writer.specs.States.{AddsItem, count_in_header, with_one_more}
 use Rattle.dnw_message_writer.specs.declared.section.Section.{Section}
 use Rattle.dnw_message_writer.specs.declared.section.Section.TheVariants.{Queries, Answers, Authorities, Additionals}
 use Rattle.dnw_message_writer.specs.declared.state.WriterState.{WriterState}
@@ -319,7 +319,7 @@ module _ (id flags : ℕ) (c : AddedItems) (w : WriterState) (old new : List ℕ
 
 pub questions_are_added : QuestionsAreAdded
 questions_are_added slot id flags c q w v old new h fits are added =
-    let form : ItemForm = λ b near hints octets after. IsQuestion slot b near hints q.name q.query_type q.class octets after in
+    let form : ItemForm = question_form slot q.name q.query_type q.class in
     let g = grown Queries form w v old new added in
     let (octets, hints, is, limit, room, new_is, after_is) = added in
     let read : StaysRead ReadsAsQuestion new q w.end (w.end + length octets) =
@@ -332,7 +332,7 @@ questions_are_added slot id flags c q w v old new h fits are added =
 
 pub records_are_added : RecordsAreAdded
 records_are_added slot id flags c s r w v old new h some fits are labels added =
-    let form : ItemForm = λ b near hints octets after. IsRecord slot b near hints r.owner (fields_of_record r.record_type r.class r.ttl) r.pieces octets after in
+    let form : ItemForm = record_form slot r.owner r.record_type r.class r.ttl r.pieces in
     let g = grown s form w v old new added in
     let (octets, hints, is, limit, room, new_is, after_is) = added in
     let small : length octets < 2 ^ 16 = omega (arith, room) in

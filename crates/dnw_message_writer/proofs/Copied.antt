@@ -1,19 +1,20 @@
 -- A message that was written again holds the items of the other.
-use Rattle.std.proofs.Common.{◌≡◌, ◌⊎◌, ℕ, ◌+◌, ◌<◌, ◌≤◌, ◌^◌, Bool, true, false, true≢false, if◌then◌else◌, List, [], ◌∷◌, ◌++◌, length, min, take, refl, sym, ap, ◌∙◌, subst, inl, inr, append_assoc, arith}
+use Rattle.std.proofs.Common.{◌≡◌, ℕ, ◌+◌, ◌≤◌, Bool, true, false, true≢false, if◌then◌else◌, List, [], ◌∷◌, ◌++◌, refl, sym, ap, ◌∙◌, subst, append_assoc, arith}
 use Rattle.std.specs.List.{AllZip}
 use Rattle.std.proofs.lemmas.List.{append-nil}
 use Rattle.dnw_base.specs.DnsClasses.{class_code}
 use Rattle.dnw_base.specs.RecordTypes.{type_code}
 use Rattle.dnw_record.specs.Records.{RecordValue}
 use Rattle.dnw_message_read.specs.Headers.{flags_of}
-use Rattle.dnw_message_read.specs.Messages.{MessageValue, QueryValue}
+use Rattle.dnw_message_read.specs.Messages.{QueryValue}
 use Rattle.dnw_message_writer.specs.Contents.{AddedItems, AddedQuestion, AddedRecord, HoldsItems, cut_flags, no_items, with_question, with_records}
-use Rattle.dnw_message_writer.specs.Copying.{CopiesMessage, CopiesSets, copied_form, held_from, held_in, no_room, none_left, one_set, query_form, sets_of}
+use Rattle.dnw_message_writer.specs.Copying.{CopiesSets, copied_form, held_from, held_in, no_room, none_left, one_set, query_form, sets_of}
 use Rattle.dnw_message_writer.specs.CopyLaws.{AreItemsOf, AreTheFirst, CopiesHold, IsCopiedQuestion, IsCopiedRecord}
 use Rattle.dnw_message_writer.specs.Hints.{slot_of}
+use Rattle.dnw_message_writer.specs.Items.{ItemForm}
 use Rattle.dnw_message_writer.specs.Sections.{rank}
 use Rattle.dnw_message_writer.specs.Sets.{AddsSet, cut_off}
-use Rattle.dnw_message_writer.specs.States.{AddsItem, ItemForm, room_of}
+use Rattle.dnw_message_writer.specs.States.{AddsItem}
 use Rattle.dnw_message_writer.specs.declared.section.Section.{Section}
 use Rattle.dnw_message_writer.specs.declared.section.Section.TheVariants.{Queries, Answers, Authorities, Additionals}
 use Rattle.dnw_message_writer.specs.declared.state.WriterState.{WriterState}

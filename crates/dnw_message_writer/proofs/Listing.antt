@@ -1,9 +1,10 @@
 -- Records of a list that are added in turn.
 use Rattle.std.proofs.Common.{◌≡◌, ◌⊎◌, ℕ, ◌+◌, ◌≤◌, List, [], ◌∷◌, ◌++◌, drop, length, take, refl, sym, ap, ◌∙◌, subst, inl, inr, arith}
 use Rattle.dnw_message_writer.specs.Inside.Turns.{KeptCount}
+use Rattle.dnw_message_writer.specs.Items.{ItemForm}
 use Rattle.dnw_message_writer.specs.Listed.{HasListed, ListsThen, data_form, first_listed, listed_size}
 use Rattle.dnw_message_writer.specs.Sets.{AddsSet}
-use Rattle.dnw_message_writer.specs.States.{AddsItem, ItemForm}
+use Rattle.dnw_message_writer.specs.States.{AddsItem}
 use Rattle.dnw_message_writer.specs.declared.section.Section.{Section}
 use Rattle.dnw_message_writer.specs.declared.state.WriterState.{WriterState}
 use Rattle.dnw_message_writer.proofs.Laying.{take_less}

@@ -1,5 +1,5 @@
 -- OPT records, whose data are any octets.
-use Rattle.std.proofs.Common.{◌≡◌, ◌==◌, ◌||◌, false, ◌≤◌, replicate, get_or, Result, Ok, Err, OnOk, IfErr, Some, ◌<◌, arith, ℕ, ◌+◌, List, [], ◌∷◌, ◌++◌, length, take, inl, inr, refl, sym, ap, ◌∙◌, subst}
+use Rattle.std.proofs.Common.{◌≡◌, ◌==◌, ◌||◌, false, replicate, get_or, Result, Ok, Err, OnOk, IfErr, Some, ◌<◌, arith, ℕ, ◌+◌, List, [], ◌∷◌, ◌++◌, length, take, inl, inr, refl, sym, ap, subst}
 use Rattle.std.specs.Int.{w16, to_be_bytes}
 use Rattle.std.specs.List.{flat_map}
 use Rattle.std.proofs.lemmas.Bool.{cases_Bool}
@@ -8,8 +8,8 @@ use Rattle.dnw_data.specs.Table.{fields_of, fields_of_some, hex, is_internet_typ
 use Rattle.dnw_record.specs.DataPieces.{IsData, octets_piece}
 use Rattle.dnw_message_writer.specs.Data.{AreOfData, names_among, whole_octets}
 use Rattle.dnw_message_writer.specs.Edns.{padding}
-use Rattle.dnw_message_writer.specs.Listed.{DataGoPast, data_form}
-use Rattle.dnw_message_writer.specs.States.{AddsItem, FailsToAdd, ItemForm, room_of}
+use Rattle.dnw_message_writer.specs.Items.{ItemForm, ItemPast}
+use Rattle.dnw_message_writer.specs.States.{AddsItem, FailsToAdd, room_of}
 use Rattle.dnw_message_writer.specs.declared.pieces.Piece.{Piece}
 use Rattle.dnw_message_writer.specs.declared.section.Section.{Section}
 use Rattle.dnw_message_writer.specs.declared.section.WriteError.{WriteError}
@@ -18,16 +18,18 @@ use Rattle.dnw_message_writer.proofs.Splitting.{of_all}
 
 -- an item of a form is one of another form that it has too
 pub adds_as : (s : Section) (form other : ItemForm) (w : WriterState) (old : List ℕ) (v : WriterState) (new : List ℕ)
-    → ((b : List ℕ) (near : ℕ) (hints octets after : List ℕ) → form b near hints octets after → other b near hints octets after)
+    → form.is_opt ≡ other.is_opt
+    → ((b : List ℕ) (near : ℕ) (hints octets after : List ℕ) → form.writes b near hints octets after → other.writes b near hints octets after)
     → AddsItem s form w old v new → AddsItem s other w old v new
-adds_as s form other w old v new f (octets, hints, is, limit, fits, new_is, after_is) =
-    (octets, hints, f (take w.end old) w.owner w.hints octets hints is, limit, fits, new_is, after_is)
+adds_as s form other w old v new same f (octets, hints, is, limit, fits, new_is, after_is) =
+    (octets, hints, f (take w.end old) w.owner w.hints octets hints is, rw same at limit, fits, new_is, rw same at after_is)
 
-pub fails_as : (s : Section) (past other : ℕ → List ℕ → ℕ → List ℕ → Type 0) (w : WriterState) (m : List ℕ) (e : WriteError)
-    → ((limit : ℕ) (b : List ℕ) (near : ℕ) (hints : List ℕ) → past limit b near hints → other limit b near hints)
+pub fails_as : (s : Section) (past other : ItemPast) (w : WriterState) (m : List ℕ) (e : WriteError) → past.of_opt ≡ other.of_opt
+    → ((limit : ℕ) (b : List ℕ) (near : ℕ) (hints : List ℕ) → past.goes limit b near hints → other.goes limit b near hints)
     → FailsToAdd s past w m e → FailsToAdd s other w m e
-fails_as s past other w m e f (inl no_limit) = inl no_limit
-fails_as s past other w m e f (inr (limit, goes, is)) = inr (limit, f (room_of w m) (take w.end m) w.owner w.hints goes, is)
+fails_as s past other w m e same f (inl no_limit) = inl (rw same at no_limit)
+fails_as s past other w m e same f (inr (limit, goes, is)) =
+    inr (rw same at limit, f (room_of w m) (take w.end m) w.owner w.hints goes, is)
 
 some_opt : (class : ℕ) (d : List ℕ) → fields_of_some class 41 d ≡ hex ∷ []
 unfolding is_internet_type

@@ -1,5 +1,5 @@
 -- Items of a message that are added in turn, when it is written again.
-use Rattle.std.proofs.Common.{◌≡◌, ◌≢◌, ◌⊎◌, ℕ, suc, ◌+◌, ◌<◌, ◌≤◌, ◌^◌, Bool, true, false, true≢false, not, cond, Option, Some, None, List, [], ◌∷◌, ◌++◌, filter, length, take, refl, sym, ap, ◌∙◌, subst, inl, inr, append_assoc, arith, length-append}
+use Rattle.std.proofs.Common.{◌≡◌, ◌≢◌, ◌⊎◌, ℕ, ◌+◌, ◌<◌, ◌≤◌, ◌^◌, Bool, true, false, true≢false, not, cond, List, [], ◌∷◌, ◌++◌, length, take, refl, sym, ap, ◌∙◌, subst, inl, inr, append_assoc, arith, length-append}
 use Rattle.std.specs.List.{AllByRecursion}
 use Rattle.std.proofs.lemmas.List.{append-nil}
 use Rattle.dnw_base.specs.DnsClasses.{class_code}
@@ -9,15 +9,15 @@ use Rattle.dnw_data.specs.Table.{fields_of}
 use Rattle.dnw_record.specs.DataCopies.{Copies, data_start, record_kinds}
 use Rattle.dnw_record.specs.Records.{RecordValue}
 use Rattle.dnw_message_read.specs.Messages.{QueryValue}
-use Rattle.dnw_message_writer.specs.Copying.{AreASet, AreOfOneSet, CopiesSets, CopyFits, CopyGoesPast, EndsBefore, FailsSets, FailsToAddCopy, FailsToAddQuery, StopsAmong, StopsInSet, after_set, at_once, copied_form, held_in, is_held, no_room, none_left, one_set, query_form, sets_of}
-use Rattle.dnw_message_writer.specs.Inside.CopiedSets.{AddsFirstSet, first_of}
+use Rattle.dnw_message_writer.specs.Copying.{AreASet, AreOfOneSet, CopiesSets, CopyFits, copied_past, EndsBefore, FailsSets, FailsToAddCopy, FailsToAddQuery, StopsAmong, StopsInSet, after_set, at_once, copied_form, held_in, is_held, no_room, none_left, one_set, query_form, sets_of}
+use Rattle.dnw_message_writer.specs.Inside.CopiedSets.{AddsFirstSet}
 use Rattle.dnw_message_writer.specs.Inside.Turns.{KeptCount}
 use Rattle.dnw_message_writer.specs.Data.{AreOfData}
 use Rattle.dnw_message_writer.specs.Hints.{slot_of}
-use Rattle.dnw_message_writer.specs.Items.{IsQuestion, IsRecord, QuestionGoesPast, fields_of_record}
-use Rattle.dnw_message_writer.specs.Listed.{DataGoPast, data_form}
+use Rattle.dnw_message_writer.specs.Items.{ItemForm, question_form, question_past, record_form}
+use Rattle.dnw_message_writer.specs.Listed.{data_form, data_past}
 use Rattle.dnw_message_writer.specs.Sets.{AddsSet}
-use Rattle.dnw_message_writer.specs.States.{AddsItem, FailsToAdd, ItemForm}
+use Rattle.dnw_message_writer.specs.States.{AddsItem, FailsToAdd}
 use Rattle.dnw_message_writer.specs.declared.copying.CopyError.{CopyError}
 use Rattle.dnw_message_writer.specs.declared.copying.CopyError.TheVariants as errors
 use Rattle.dnw_message_writer.specs.declared.pieces.Piece.{Piece}
@@ -230,7 +230,7 @@ module _ (s : Section) (xs : List RecordValue) (first : WriterState) (old : List
 
 pub data_added : (s : Section) (w v : WriterState) (m n : List ℕ) (owner : List (List ℕ)) (t c l : ℕ) (own : List ℕ) (xs : List Piece)
     → AreOfData (fields_of c t own) own xs
-    → AddsItem s (λ b near hints octets after. IsRecord slot_of b near hints owner (fields_of_record t c l) xs octets after) w m v n
+    → AddsItem s (record_form slot_of owner t c l xs) w m v n
     → AddsItem s (data_form owner t c l own) w m v n
 data_added s w v m n owner t c l own xs of (octets, hints, is, limit, room, new_is, after_is) = (octets, hints, (xs, of, is), limit, room, new_is, after_is)
 
@@ -244,23 +244,23 @@ module _ (s : Section) (x : RecordValue) (own : List ℕ) (owner : List (List �
       rw (owner_is, t_is, c_is, l_is) at added in
       (octets, hints, (f, own, copies, is), limit, room, new_is, after_is)
 
-  pub copy_past : (w : WriterState) (m : List ℕ) (e : WriteError) → FailsToAdd s (DataGoPast owner t c l own) w m e → FailsToAdd s (CopyGoesPast x) w m e
+  pub copy_past : (w : WriterState) (m : List ℕ) (e : WriteError) → FailsToAdd s (data_past owner t c l own) w m e → FailsToAdd s (copied_past x) w m e
   copy_past w m e fails =
-      let f : FailsToAdd s (DataGoPast x.owner (type_code x.record_type) (class_code x.class) x.ttl own) w m e = rw (owner_is, t_is, c_is, l_is) at fails in
+      let f : FailsToAdd s (data_past x.owner (type_code x.record_type) (class_code x.class) x.ttl own) w m e = rw (owner_is, t_is, c_is, l_is) at fails in
       elim f [ inl first ↦ inl first | inr (limit, past, is) ↦ inr (limit, (own, copies, past), is) ]
 
 -- ---- one question
 
 module _ (x : QueryValue) (name : List (List ℕ)) (t c : ℕ) (name_is : name ≡ x.name) (t_is : t ≡ type_code x.query_type) (c_is : c ≡ class_code x.query_class) where
   pub query_added : (w v : WriterState) (m n : List ℕ) → (t < 2 ^ 16) × (c < 2 ^ 16) × AreLabels name
-      → AddsItem Queries (λ b near hints octets after. IsQuestion slot_of b near hints name t c octets after) w m v n → AddsItem Queries (query_form x) w m v n
+      → AddsItem Queries (question_form slot_of name t c) w m v n → AddsItem Queries (query_form x) w m v n
   query_added w v m n fits added =
       let f : (type_code x.query_type < 2 ^ 16) × (class_code x.query_class < 2 ^ 16) × AreLabels x.name = rw (name_is, t_is, c_is) at fits in
-      let (octets, hints, is, limit, room, new_is, after_is) : AddsItem Queries (λ b near hints octets after. IsQuestion slot_of b near hints x.name (type_code x.query_type) (class_code x.query_class) octets after) w m v n =
+      let (octets, hints, is, limit, room, new_is, after_is) : AddsItem Queries (question_form slot_of x.name (type_code x.query_type) (class_code x.query_class)) w m v n =
       rw (name_is, t_is, c_is) at added in
       (octets, hints, (f.0, f.1, f.2, is), limit, room, new_is, after_is)
 
-  pub query_past : (w : WriterState) (m : List ℕ) (error : WriteError) → FailsToAdd Queries (λ limit b near hints. QuestionGoesPast slot_of limit b near hints name) w m error
+  pub query_past : (w : WriterState) (m : List ℕ) (error : WriteError) → FailsToAdd Queries (question_past slot_of name) w m error
       → FailsToAddQuery x w m (errors.Write error)
   query_past w m error fails = (error, rw name_is at fails, refl)
 

@@ -1,5 +1,5 @@
 -- An owner that repeats the one before it takes two octets.
-use Rattle.std.proofs.Common.{◌≡◌, ◌≢◌, ◌⊎◌, ℕ, ◌+◌, ◌-◌, ◌/◌, ◌%◌, ◌<◌, ◌≤◌, Bool, true, false, nat_le, nat_lt, List, [], ◌∷◌, ◌++◌, length, take, drop, get_or, replicate, slice_index, sym, ap, ◌∙◌, subst, inl, inr, refl, append_assoc, arith, length-append, length-drop}
+use Rattle.std.proofs.Common.{◌≡◌, ◌≢◌, ◌⊎◌, ℕ, ◌+◌, ◌-◌, ◌/◌, ◌%◌, ◌<◌, ◌≤◌, Bool, true, false, nat_le, nat_lt, List, [], ◌∷◌, ◌++◌, length, take, drop, get_or, replicate, sym, ap, ◌∙◌, subst, inl, inr, refl, append_assoc, arith, length-append, length-drop}
 use Rattle.std.specs.Int.{w16, to_be_bytes}
 use Rattle.std.specs.Prelude.{if◌then◌else◌, ◌&&◌, slice_set}
 use Rattle.std.specs.List.{AllByRecursion}
@@ -12,12 +12,12 @@ use Rattle.dnw_base.specs.Names.{AreLabels, label_wire, wire}
 use Rattle.dnw_base.proofs.Wires.{encoded_size_cons, few_labels, length_wire}
 use Rattle.dnw_message_writer.specs.CompressedNames.{Compresses, MayPointTo, kept_hints, pointer_octets, put_at}
 use Rattle.dnw_message_writer.specs.Inside.Fitting.{HasLabels}
-use Rattle.dnw_message_writer.specs.Items.{IsNear, IsOwner, IsQuestion, IsRecord, before_length, fields_of_record, place_at, question_fields}
+use Rattle.dnw_message_writer.specs.Items.{IsNear, IsOwner, ItemForm, before_length, fields_of_record, place_at, question_fields, question_form, record_form}
 use Rattle.dnw_message_writer.specs.NameLaws.{KeepsSettled}
 use Rattle.dnw_message_writer.specs.Pieces.{ArePieces}
 use Rattle.dnw_message_writer.specs.SizeLaws.{HintsAtLabels, HintsBegin, NearOwnersTakeTwo, QuestionsAreNear, RecordsAreNear}
 use Rattle.dnw_message_writer.specs.Standing.{AreSettled, FollowsPointer, IsThere, LeadsBack, StandsFrom, after_octets, after_pointer, at_start, pointed}
-use Rattle.dnw_message_writer.specs.States.{AddsItem, ItemForm}
+use Rattle.dnw_message_writer.specs.States.{AddsItem}
 use Rattle.dnw_message_writer.specs.declared.pieces.Piece.{Piece}
 use Rattle.dnw_message_writer.specs.declared.pieces.Piece.TheVariants.{Octets, Name}
 use Rattle.dnw_message_writer.specs.declared.section.Section.{Section}
@@ -402,7 +402,7 @@ hints_begin id flags max_size old new w begun i after =
 
 pub questions_are_near : QuestionsAreNear
 questions_are_near slot q w v old new hints are added =
-    let form : ItemForm = λ b near hints octets after. IsQuestion slot b near hints q.name q.query_type q.class octets after in
+    let form : ItemForm = question_form slot q.name q.query_type q.class in
     let g = grown Queries form w v old new added in
     let (keeps, there) = item_later Queries form w v old new added in
     let b = take w.end old in
@@ -423,7 +423,7 @@ questions_are_near slot q w v old new hints are added =
 pub records_are_near : RecordsAreNear
 records_are_near slot s r w v old new hints are labels added =
     let fields = fields_of_record r.record_type r.class r.ttl in
-    let form : ItemForm = λ b near hints octets after. IsRecord slot b near hints r.owner fields r.pieces octets after in
+    let form : ItemForm = record_form slot r.owner r.record_type r.class r.ttl r.pieces in
     let g = grown s form w v old new added in
     let (keeps, there) = item_later s form w v old new added in
     let b = take w.end old in

@@ -1,5 +1,5 @@
 -- Items take no more octets than with their names whole.
-use Rattle.std.proofs.Common.{◌≡◌, ℕ, ◌+◌, ◌-◌, ◌<◌, ◌≤◌, List, [], ◌∷◌, ◌++◌, length, take, ap, inl, inr, refl, arith, length-append}
+use Rattle.std.proofs.Common.{◌≡◌, ℕ, Bool, ◌+◌, ◌-◌, ◌<◌, ◌≤◌, List, [], ◌∷◌, ◌++◌, length, take, ap, inl, inr, refl, arith, length-append}
 use Rattle.std.specs.Int.{w16, to_be_bytes}
 use Rattle.std.specs.List.{AllByRecursion}
 use Rattle.std.proofs.lemmas.List.{length-take}
@@ -7,7 +7,7 @@ use Rattle.dnw_base.specs.Names.{AreLabels}
 use Rattle.dnw_base.proofs.Wires.{length_wire}
 use Rattle.dnw_message_writer.specs.Contents.{AddedRecord}
 use Rattle.dnw_message_writer.specs.Inside.Fitting.{FitWhole, HasLabels, whole_size}
-use Rattle.dnw_message_writer.specs.Items.{IsRecord, QuestionGoesPast, RecordGoesPast, before_length, fields_of_record, question_fields}
+use Rattle.dnw_message_writer.specs.Items.{IsRecord, ItemPast, before_length, fields_of_record, question_fields, question_past, record_past}
 use Rattle.dnw_message_writer.specs.Pieces.{ArePieces}
 use Rattle.dnw_message_writer.specs.SizeLaws.{QuestionsTakeNoMore, RecordsTakeNoMore, whole_pieces, whole_question, whole_record}
 use Rattle.dnw_message_writer.specs.States.{FailsToAdd, FailsToTakeLimit, room_of}
@@ -52,18 +52,19 @@ module _ (slot : List (List ℕ) → ℕ) where
       )
 
 -- no room for any item
-no_room_left : (s : Section) (w : WriterState) (m : List ℕ) → FailsToTakeLimit s w m NoRoom → room_of w m < w.end
-no_room_left s w m (inl (none, wrong)) = absurd cc
-no_room_left s w m (inr (inl (whole, order, wrong))) = absurd cc
-no_room_left s w m (inr (inr (whole, order, less, is))) = less
+no_room_left : (s : Section) (opt : Bool) (w : WriterState) (m : List ℕ) → FailsToTakeLimit s opt w m NoRoom → room_of w m < w.end
+no_room_left s opt w m (inl (none, wrong)) = absurd cc
+no_room_left s opt w m (inr (inl (whole, order, wrong))) = absurd cc
+no_room_left s opt w m (inr (inr (inl (whole, order, is_opt, has, wrong)))) = absurd cc
+no_room_left s opt w m (inr (inr (inr (whole, order, single, less, is)))) = less
 
 -- no room, if what does not fit would not fit whole
-no_room : (s : Section) (goes_past : ℕ → List ℕ → ℕ → List ℕ → Type 0) (w : WriterState) (m : List ℕ) (whole : ℕ)
-    → (w.end + whole ≤ room_of w m → goes_past (room_of w m) (take w.end m) w.owner w.hints → ⊥)
-    → FailsToAdd s goes_past w m NoRoom → room_of w m < w.end + whole
-no_room s goes_past w m whole fits (inl none) = omega (arith, no_room_left s w m none)
-no_room s goes_past w m whole fits (inr (limit, past, is)) =
-    elim (le_or_lt (w.end + whole) (room_of w m)) [ inl room ↦ absurd (fits room past) | inr less ↦ less ]
+no_room : (s : Section) (past : ItemPast) (w : WriterState) (m : List ℕ) (whole : ℕ)
+    → (w.end + whole ≤ room_of w m → past.goes (room_of w m) (take w.end m) w.owner w.hints → ⊥)
+    → FailsToAdd s past w m NoRoom → room_of w m < w.end + whole
+no_room s past w m whole fits (inl none) = omega (arith, no_room_left s past.of_opt w m none)
+no_room s past w m whole fits (inr (limit, goes, is)) =
+    elim (le_or_lt (w.end + whole) (room_of w m)) [ inl room ↦ absurd (fits room goes) | inr less ↦ less ]
 
 so_far_size : (w : WriterState) (m : List ℕ) → length (take w.end m) ≤ w.end
 so_far_size w m = omega (arith, length-take w.end m)
@@ -80,7 +81,7 @@ questions_take_no_more slot q w old are = (
         length_wire q.name,
       ),
   λ fails.
-      no_room Queries (λ limit b near hints. QuestionGoesPast slot limit b near hints q.name) w old (whole_question q)
+      no_room Queries (question_past slot q.name) w old (whole_question q)
       (λ room past. question_fits slot (room_of w old) (take w.end old) w.owner w.hints q.name are (omega (arith, room, so_far_size w old, length_wire q.name)) past) fails,
 )
 
@@ -94,7 +95,7 @@ records_take_no_more slot s r w old are labels =
             record_takes_no_more slot (take w.end old) w.owner w.hints r added.0 added.1 are labels added.2,
           ),
       λ fails.
-          no_room s (λ limit b near hints. RecordGoesPast slot limit b near hints r.owner fields r.pieces) w old (whole_record r)
+          no_room s (record_past slot r.owner r.record_type r.class r.ttl r.pieces) w old (whole_record r)
           (λ room past.
           record_fits slot (room_of w old) (take w.end old) w.owner w.hints r.owner fields r.pieces (whole_pieces r.pieces) are refl
           (fit_exactly r.pieces (whole_pieces r.pieces) refl labels) (omega (arith, room, so_far_size w old, length_wire r.owner)) past)

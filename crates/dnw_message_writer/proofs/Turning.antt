@@ -6,9 +6,10 @@ use Rattle.std.proofs.lemmas.Bool.{cases_order}
 use Rattle.std.proofs.lemmas.List.{append-nil, drop-take, drop_at, get_or-take, length-take-le, take_all, take_at, take-append-drop}
 use Rattle.dnw_message_writer.specs.CompressedNames.{put_at}
 use Rattle.dnw_message_writer.specs.Inside.Turns.{KeptCount, Turned, count_octets}
+use Rattle.dnw_message_writer.specs.Items.{ItemForm, ItemPast}
 use Rattle.dnw_message_writer.specs.Sections.{offset_of_count}
 use Rattle.dnw_message_writer.specs.Sets.{AddsSet, FailsToAddSet}
-use Rattle.dnw_message_writer.specs.States.{AddsItem, FailsToAdd, ItemForm, count_in_header}
+use Rattle.dnw_message_writer.specs.States.{AddsItem, FailsToAdd, count_in_header}
 use Rattle.dnw_message_writer.specs.declared.section.Section.{Section}
 use Rattle.dnw_message_writer.specs.declared.section.WriteError.{WriteError}
 use Rattle.dnw_message_writer.specs.declared.set.Data.{Data}
@@ -115,8 +116,8 @@ module _ (s : Section) (old : List ℕ) (e : ℕ) where
   count_same m short (inl same) = same
   count_same m short (inr (long, x, size, same)) = absurd (short long)
 
-module _ (s : Section) (form : Data → ItemForm) (goes_past : Data → ℕ → List ℕ → ℕ → List ℕ → Type 0) (first : WriterState) (old : List ℕ) (set : List Data) where
-  pub turned_none : Turned s form goes_past first old set first old set
+module _ (s : Section) (form : Data → ItemForm) (past : Data → ItemPast) (first : WriterState) (old : List ℕ) (set : List Data) where
+  pub turned_none : Turned s form past first old set first old set
   turned_none = record {
     goes_on = λ after new h. h;
     fails = λ e h. h;
@@ -126,10 +127,10 @@ module _ (s : Section) (form : Data → ItemForm) (goes_past : Data → ℕ → 
     whole = inr refl;
   }
 
-  module _ {w : WriterState} {m : List ℕ} {left : List Data} (g : Turned s form goes_past first old set w m left) where
+  module _ {w : WriterState} {m : List ℕ} {left : List Data} (g : Turned s form past first old set w m left) where
     -- one more is added
     pub turned_on : (d : Data) (ds : List Data) (v : WriterState) (n : List ℕ) → left ≡ d ∷ ds → length n ≡ length m
-        → AddsItem s (form d) w m v n → Turned s form goes_past first old set v n ds
+        → AddsItem s (form d) w m v n → Turned s form past first old set v n ds
     turned_on d ds v n split size added =
         let further = g.further in
         let header = added.3.message.whole in
@@ -137,7 +138,7 @@ module _ (s : Section) (form : Data → ItemForm) (goes_past : Data → ℕ → 
         record {
           goes_on = λ after new h.
               g.goes_on after new (subst (λ xs. AddsSet s form xs w m after new) (sym split) (v, n, added, h));
-          fails = λ e h. g.fails e (subst (λ xs. FailsToAddSet s form goes_past xs w m e) (sym split) (inr (v, n, added, h)));
+          fails = λ e h. g.fails e (subst (λ xs. FailsToAddSet s form past xs w m e) (sym split) (inr (v, n, added, h)));
           further = omega (arith, further, ap (λ (x : WriterState). x.end) added.6);
           kept = kept_on s old first.end (form d) w v m n whole further g.size g.kept added;
           size = size ∙ g.size;
@@ -145,9 +146,9 @@ module _ (s : Section) (form : Data → ItemForm) (goes_past : Data → ℕ → 
         }
 
     -- the next one is not
-    pub turned_past : (d : Data) (ds : List Data) (e : WriteError) → left ≡ d ∷ ds → FailsToAdd s (goes_past d) w m e
-        → FailsToAddSet s form goes_past set first old e
-    turned_past d ds e split fails = g.fails e (subst (λ xs. FailsToAddSet s form goes_past xs w m e) (sym split) (inl fails))
+    pub turned_past : (d : Data) (ds : List Data) (e : WriteError) → left ≡ d ∷ ds → FailsToAdd s (past d) w m e
+        → FailsToAddSet s form past set first old e
+    turned_past d ds e split fails = g.fails e (subst (λ xs. FailsToAddSet s form past xs w m e) (sym split) (inl fails))
 
     pub kept_past : (n : List ℕ) → take w.end n ≡ take w.end m → KeptCount s (take first.end old) (take first.end n)
     kept_past n same =

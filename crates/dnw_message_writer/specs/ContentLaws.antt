@@ -1,12 +1,12 @@
 -- What a message holds after each call of a writer. Each is the clause of a public function, and so proved.
-use Rattle.std.specs.Prelude.{◌≡◌, ℕ, ◌<◌, ◌≤◌, ◌^◌, List, [], ◌∷◌, length, map, take}
+use Rattle.std.specs.Prelude.{◌≡◌, ℕ, ◌<◌, ◌≤◌, ◌^◌, ◌==◌, List, [], ◌∷◌, length, map, take}
 use Rattle.std.specs.List.{AllByRecursion}
 use Rattle.dnw_base.specs.Names.{AreLabels}
 use Rattle.dnw_data.specs.Table.{fields_of}
 use Rattle.dnw_message_writer.specs.Contents.{AddedQuestion, AddedRecord, AddedItems, HoldsItems, QuestionFits, RecordFits, cut_flags, no_items, with_data, with_question, with_records}
 use Rattle.dnw_message_writer.specs.Data.{AreOfData}
 use Rattle.dnw_message_writer.specs.Inside.Fitting.{HasLabels}
-use Rattle.dnw_message_writer.specs.Items.{IsQuestion, IsRecord, fields_of_record}
+use Rattle.dnw_message_writer.specs.Items.{IsRecord, ItemForm, fields_of_record, opt_code, question_form, record_form}
 use Rattle.dnw_message_writer.specs.Sections.{rank}
 use Rattle.dnw_message_writer.specs.Sets.{AddsSet, CutsOff}
 use Rattle.dnw_message_writer.specs.States.{AddsItem, AddsLastItem, BeginsMessage, released}
@@ -25,22 +25,29 @@ BegunMessagesAreEmpty = (id flags max_size : ℕ) (old new : List ℕ) (w : Writ
 abbrev pub QuestionsAreAdded : Type 0
 QuestionsAreAdded = (slot : List (List ℕ) → ℕ) (id flags : ℕ) (c : AddedItems) (q : AddedQuestion) (w v : WriterState) (old new : List ℕ)
     → HoldsItems id flags c w old → QuestionFits q → AreLabels q.name
-    → AddsItem Queries (λ b near hints octets after. IsQuestion slot b near hints q.name q.query_type q.class octets after) w old v new
+    → AddsItem Queries (question_form slot q.name q.query_type q.class) w old v new
     → HoldsItems id flags (with_question q c) v new
 
 -- So is a record, of a section of records.
 abbrev pub RecordsAreAdded : Type 0
 RecordsAreAdded = (slot : List (List ℕ) → ℕ) (id flags : ℕ) (c : AddedItems) (s : Section) (r : AddedRecord) (w v : WriterState) (old new : List ℕ)
     → HoldsItems id flags c w old → 1 ≤ rank s → RecordFits r → AreLabels r.owner → AllByRecursion HasLabels r.pieces
-    → AddsItem s (λ b near hints octets after. IsRecord slot b near hints r.owner (fields_of_record r.record_type r.class r.ttl) r.pieces octets after) w old v new
+    → AddsItem s (record_form slot r.owner r.record_type r.class r.ttl r.pieces) w old v new
     → HoldsItems id flags (with_records s (r ∷ []) c) v new
+
+abbrev pub given_form : (List (List ℕ) → ℕ) → AddedRecord → List ℕ → ItemForm
+given_form slot r given = record {
+  is_opt = r.record_type == opt_code;
+  writes = λ b near hints octets after.
+      (xs : List Piece) × AreOfData (fields_of r.class r.record_type given) given xs
+      × IsRecord slot b near hints r.owner (fields_of_record r.record_type r.class r.ttl) xs octets after;
+}
 
 -- So is a record whose data are given as octets, with every name in its wire form: its pieces are of these.
 abbrev pub GivenRecordsAreAdded : Type 0
 GivenRecordsAreAdded = (slot : List (List ℕ) → ℕ) (id flags : ℕ) (c : AddedItems) (s : Section) (r : AddedRecord) (given : List ℕ) (w v : WriterState)
     (old new : List ℕ) → HoldsItems id flags c w old → 1 ≤ rank s → RecordFits r → AreLabels r.owner
-    → AddsItem s (λ b near hints octets after. (xs : List Piece) × AreOfData (fields_of r.class r.record_type given) given xs
-    × IsRecord slot b near hints r.owner (fields_of_record r.record_type r.class r.ttl) xs octets after) w old v new
+    → AddsItem s (given_form slot r given) w old v new
     → (xs : List Piece) × AreOfData (fields_of r.class r.record_type given) given xs
     × HoldsItems id flags (with_records s (record r { pieces = xs } ∷ []) c) v new
 
@@ -49,14 +56,14 @@ abbrev pub SetsAreAdded : Type 0
 SetsAreAdded = (slot : List (List ℕ) → ℕ) (id flags : ℕ) (c : AddedItems) (s : Section) (r : AddedRecord) (set : List Data) (w v : WriterState)
     (old new : List ℕ) → HoldsItems id flags c w old → 1 ≤ rank s → RecordFits r → AreLabels r.owner
     → AllByRecursion (λ d. AllByRecursion HasLabels d.pieces.now) set
-    → AddsSet s (λ d b near hints octets after. IsRecord slot b near hints r.owner (fields_of_record r.record_type r.class r.ttl) d.pieces.now octets after) set w old v new
+    → AddsSet s (λ d. record_form slot r.owner r.record_type r.class r.ttl d.pieces.now) set w old v new
     → HoldsItems id flags (with_records s (map (with_data r) set) c) v new
 
 -- So is a last record, which has some of the octets that were held back.
 abbrev pub LastRecordsAreAdded : Type 0
 LastRecordsAreAdded = (slot : List (List ℕ) → ℕ) (id flags held : ℕ) (c : AddedItems) (r : AddedRecord) (w v : WriterState) (old new : List ℕ)
     → HoldsItems id flags c w old → RecordFits r → AreLabels r.owner → AllByRecursion HasLabels r.pieces
-    → AddsLastItem (λ b near hints octets after. IsRecord slot b near hints r.owner (fields_of_record r.record_type r.class r.ttl) r.pieces octets after) (released held w) old v new
+    → AddsLastItem (record_form slot r.owner r.record_type r.class r.ttl r.pieces) (released held w) old v new
     → HoldsItems id flags (with_records Additionals (r ∷ []) c) v new
 
 -- A message that says that something is missing has the same items.

@@ -1,5 +1,5 @@
 -- Records and messages that were read, written again (RFC 2181, sections 5 and 9; RFC 6891, section 6.1.1).
-use Rattle.std.specs.Prelude.{◌≡◌, ◌≢◌, ℕ, ◌+◌, ◌/◌, ◌<◌, ◌≤◌, ◌^◌, ◌==◌, ◌&&◌, ◌||◌, ◌⊎◌, not, min, if◌then◌else◌, Bool, true, false, Option, Some, None, List, [], ◌∷◌, ◌++◌, filter, length, take}
+use Rattle.std.specs.Prelude.{◌≡◌, ◌≢◌, ℕ, ◌+◌, ◌/◌, ◌<◌, ◌≤◌, ◌^◌, ◌==◌, ◌&&◌, ◌||◌, ◌⊎◌, not, min, if◌then◌else◌, Bool, true, false, List, [], ◌∷◌, ◌++◌, filter, length, take}
 use Rattle.std.specs.List.{AllByRecursion}
 use Rattle.dnw_base.specs.DnsClasses.{class_code}
 use Rattle.dnw_base.specs.Names.{AreLabels, encoded_size, lower}
@@ -12,11 +12,11 @@ use Rattle.dnw_message_read.specs.Edns.{FailsEdns}
 use Rattle.dnw_message_read.specs.Messages.{MessageValue, QueryValue}
 use Rattle.dnw_message_read.specs.declared.edns.EdnsError.{EdnsError}
 use Rattle.dnw_message_writer.specs.Hints.{slot_of}
-use Rattle.dnw_message_writer.specs.Items.{IsQuestion, QuestionGoesPast}
-use Rattle.dnw_message_writer.specs.Listed.{DataGoPast, data_form}
+use Rattle.dnw_message_writer.specs.Items.{IsQuestion, ItemForm, ItemPast, opt_code, question_past}
+use Rattle.dnw_message_writer.specs.Listed.{data_form, data_past}
 use Rattle.dnw_message_writer.specs.Sets.{AddsSet, cut_off}
 use Rattle.dnw_message_writer.specs.Standing.{first_item}
-use Rattle.dnw_message_writer.specs.States.{BeginsMessage, FailsToAdd, ItemForm}
+use Rattle.dnw_message_writer.specs.States.{BeginsMessage, FailsToAdd}
 use Rattle.dnw_message_writer.specs.declared.copying.CopyError.{CopyError}
 use Rattle.dnw_message_writer.specs.declared.copying.CopyError.TheVariants as errors
 use Rattle.dnw_message_writer.specs.declared.section.Section.{Section}
@@ -34,28 +34,37 @@ CopyFits x = (type_code x.record_type < 2 ^ 16) × (class_code x.class < 2 ^ 16)
 -- How a record of a message is written: with its owner, its codes and its time to live, and with its data, in which every name is
 -- whole before it is compressed.
 abbrev pub copied_form : RecordValue → ItemForm
-copied_form x b near hints octets after =
-    CopyFits x × (own : List ℕ) × Copies (record_kinds x) (data_start x) own
-    × data_form x.owner (type_code x.record_type) (class_code x.class) x.ttl own b near hints octets after
+copied_form x = record {
+  is_opt = type_code x.record_type == opt_code;
+  writes = λ b near hints octets after.
+      CopyFits x × (own : List ℕ) × Copies (record_kinds x) (data_start x) own
+      × (data_form x.owner (type_code x.record_type) (class_code x.class) x.ttl own).writes b near hints octets after;
+}
 
-abbrev pub CopyGoesPast : RecordValue → ℕ → List ℕ → ℕ → List ℕ → Type 0
-CopyGoesPast x limit b near hints =
-    (own : List ℕ) × Copies (record_kinds x) (data_start x) own
-    × DataGoPast x.owner (type_code x.record_type) (class_code x.class) x.ttl own limit b near hints
+abbrev pub copied_past : RecordValue → ItemPast
+copied_past x = record {
+  of_opt = type_code x.record_type == opt_code;
+  goes = λ limit b near hints.
+      (own : List ℕ) × Copies (record_kinds x) (data_start x) own
+      × (data_past x.owner (type_code x.record_type) (class_code x.class) x.ttl own).goes limit b near hints;
+}
 
 -- Why a record of a message is not added: its data are none of its class and type, or it has no room, or memory ran out.
 abbrev pub FailsToAddCopy : Section → RecordValue → WriterState → List ℕ → CopyError → Type 0
 FailsToAddCopy s x w m (errors.Data offset error) =
     (offset ≡ x.start) × FailsToCopy (record_kinds x) (data_start x) (Field error)
 FailsToAddCopy s x w m (errors.Edns error) = ⊥
-FailsToAddCopy s x w m (errors.Write error) = FailsToAdd s (CopyGoesPast x) w m error
+FailsToAddCopy s x w m (errors.Write error) = FailsToAdd s (copied_past x) w m error
 FailsToAddCopy s x w m errors.Memory = Unit {0}
 
 -- So is a question.
 abbrev pub query_form : QueryValue → ItemForm
-query_form q b near hints octets after =
-    (type_code q.query_type < 2 ^ 16) × (class_code q.query_class < 2 ^ 16) × AreLabels q.name
-    × IsQuestion slot_of b near hints q.name (type_code q.query_type) (class_code q.query_class) octets after
+query_form q = record {
+  is_opt = false;
+  writes = λ b near hints octets after.
+      (type_code q.query_type < 2 ^ 16) × (class_code q.query_class < 2 ^ 16) × AreLabels q.name
+      × IsQuestion slot_of b near hints q.name (type_code q.query_type) (class_code q.query_class) octets after;
+}
 
 -- ---- sets
 
@@ -111,7 +120,7 @@ pub data FailsSets (s : Section) (e : CopyError) : List RecordValue → WriterSt
 
 -- A record that a message has to have, after its other records: OPT (41), or a signature of the message, SIG (24) or TSIG (250).
 abbrev pub is_held : RecordValue → Bool
-is_held x = (type_code x.record_type == 41) || (type_code x.record_type == 24) || (type_code x.record_type == 250)
+is_held x = (type_code x.record_type == opt_code) || (type_code x.record_type == 24) || (type_code x.record_type == 250)
 
 abbrev pub held_in : List RecordValue → List RecordValue
 held_in xs = filter is_held xs
@@ -189,7 +198,7 @@ pub record CopiesMessage (x : MessageValue) (max_size : ℕ) (old : List ℕ) (w
 -- A question is not added: it has no room.
 abbrev pub FailsToAddQuery : QueryValue → WriterState → List ℕ → CopyError → Type 0
 FailsToAddQuery q w m e =
-    (error : WriteError) × FailsToAdd Queries (λ limit b near hints. QuestionGoesPast slot_of limit b near hints q.name) w m error
+    (error : WriteError) × FailsToAdd Queries (question_past slot_of q.name) w m error
     × (e ≡ errors.Write error)
 
 pub record FailsQuestions (x : MessageValue) (max_size : ℕ) (old : List ℕ) (e : CopyError) : Type 0 where

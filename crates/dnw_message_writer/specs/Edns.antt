@@ -1,12 +1,15 @@
 -- OPT records, as they are written (RFC 6891, section 6.1), and padding (RFC 7830).
-use Rattle.std.specs.Prelude.{◌≡◌, ℕ, ◌+◌, ◌-◌, ◌*◌, ◌%◌, ◌^◌, ◌==◌, ◌||◌, nat_lt, if◌then◌else◌, Option, Some, None, List, [], ◌∷◌, ◌++◌, length, replicate}
+use Rattle.std.specs.Prelude.{◌≡◌, ℕ, ◌+◌, ◌-◌, ◌*◌, ◌%◌, ◌^◌, ◌==◌, ◌||◌, ◌⊎◌, nat_lt, if◌then◌else◌, Option, Some, None, List, [], ◌∷◌, ◌++◌, length, replicate}
 use Rattle.std.specs.Int.{w16, to_be_bytes}
+use Rattle.dnw_message_read.specs.Edns.{HasOptions}
 use Rattle.dnw_message_read.specs.Headers.{flag}
-use Rattle.dnw_message_writer.specs.Listed.{DataGoPast, data_form}
+use Rattle.dnw_message_writer.specs.Items.{opt_code}
+use Rattle.dnw_message_writer.specs.Listed.{data_form, data_past}
 use Rattle.dnw_message_writer.specs.States.{AddsItem, FailsToAdd, room_of}
 use Rattle.dnw_message_writer.specs.declared.edns.Edns.{Edns}
 use Rattle.dnw_message_writer.specs.declared.section.Section.TheVariants.{Additionals}
 use Rattle.dnw_message_writer.specs.declared.section.WriteError.{WriteError}
+use Rattle.dnw_message_writer.specs.declared.section.WriteError.TheVariants.{CutOption}
 use Rattle.dnw_message_writer.specs.declared.state.WriterState.{WriterState}
 
 -- the high bits of the response code, the version, and the flags, of which DO is the highest (section 6.1.3)
@@ -37,9 +40,19 @@ padding (Some size) = 0 ∷ 12 ∷ (to_be_bytes w16 size ++ replicate size 0)
 abbrev pub opt_data : Edns → ℕ → WriterState → List ℕ → List ℕ
 opt_data e block w m = e.options.now ++ padding (padding_size block w m (length e.options.now))
 
--- The OPT record is added: owned by the root, with the payload size as its class.
+-- The OPT record is an item: owned by the root, with the payload size as its class.
+abbrev pub AddsOptItem : Edns → ℕ → WriterState → List ℕ → WriterState → List ℕ → Type 0
+AddsOptItem e block w old after new =
+    AddsItem Additionals (data_form [] opt_code e.max_payload (ttl_of_edns e) (opt_data e block w old)) w old after new
+
+abbrev pub FailsToAddOptItem : Edns → ℕ → WriterState → List ℕ → WriteError → Type 0
+FailsToAddOptItem e block w m error =
+    FailsToAdd Additionals (data_past [] opt_code e.max_payload (ttl_of_edns e) (opt_data e block w m)) w m error
+
+-- It is added, if its options are whole (section 6.1.2).
 abbrev pub AddsOpt : Edns → ℕ → WriterState → List ℕ → WriterState → List ℕ → Type 0
-AddsOpt e block w old after new = AddsItem Additionals (data_form [] 41 e.max_payload (ttl_of_edns e) (opt_data e block w old)) w old after new
+AddsOpt e block w old after new = HasOptions e.options.now × AddsOptItem e block w old after new
 
 abbrev pub FailsToAddOpt : Edns → ℕ → WriterState → List ℕ → WriteError → Type 0
-FailsToAddOpt e block w m error = FailsToAdd Additionals (DataGoPast [] 41 e.max_payload (ttl_of_edns e) (opt_data e block w m)) w m error
+FailsToAddOpt e block w m error =
+    ((HasOptions e.options.now → ⊥) × (error ≡ CutOption)) ⊎ (HasOptions e.options.now × FailsToAddOptItem e block w m error)

@@ -1,5 +1,5 @@
 -- Questions and records, as they are written after a message (RFC 1035, sections 4.1.2 and 4.1.3).
-use Rattle.std.specs.Prelude.{◌≡◌, ℕ, ◌+◌, ◌-◌, ◌<◌, ◌⊎◌, ◌&&◌, nat_lt, nat_le, if◌then◌else◌, List, [], ◌∷◌, ◌++◌, length, take, slice_index}
+use Rattle.std.specs.Prelude.{◌≡◌, ℕ, ◌+◌, ◌-◌, ◌<◌, ◌⊎◌, ◌==◌, ◌&&◌, nat_lt, nat_le, if◌then◌else◌, Bool, false, List, [], ◌∷◌, ◌++◌, length, take, slice_index}
 use Rattle.std.specs.Int.{w16, w32, to_be_bytes}
 use Rattle.dnw_base.specs.Limits.{pointer_bits}
 use Rattle.dnw_base.specs.Names.{wire}
@@ -59,3 +59,42 @@ module _ (slot : List (List ℕ) → ℕ) where
       (owner : List ℕ) × (between : List ℕ) × IsOwner b near hints ls owner between
       × ((limit < length b + length owner + length fields)
       ⊎ GoesPast slot limit ((b ++ owner) ++ fields) (length b + length owner + (length fields - 2)) between pieces)
+
+-- ---- items of a message
+
+-- An item: whether it is an OPT record, and how it is written after a message, with the place of the last owner and hints: as these octets,
+-- and the hints become others.
+pub record ItemForm : Type 1 where
+  pub is_opt : Bool
+  pub writes : List ℕ → ℕ → List ℕ → List ℕ → List ℕ → Type 0
+
+-- When it goes past a limit.
+pub record ItemPast : Type 1 where
+  pub of_opt : Bool
+  pub goes : ℕ → List ℕ → ℕ → List ℕ → Type 0
+
+-- the code of the type OPT (RFC 6891, section 6.1.1)
+abbrev pub opt_code : ℕ
+opt_code = 41
+
+module _ (slot : List (List ℕ) → ℕ) where
+  abbrev pub question_form : List (List ℕ) → ℕ → ℕ → ItemForm
+  question_form name query_type class = record {
+    is_opt = false;
+    writes = λ b near hints octets after. IsQuestion slot b near hints name query_type class octets after;
+  }
+
+  abbrev pub question_past : List (List ℕ) → ItemPast
+  question_past name = record { of_opt = false; goes = λ limit b near hints. QuestionGoesPast slot limit b near hints name }
+
+  abbrev pub record_form : List (List ℕ) → ℕ → ℕ → ℕ → List Piece → ItemForm
+  record_form owner record_type class ttl pieces = record {
+    is_opt = record_type == opt_code;
+    writes = λ b near hints octets after. IsRecord slot b near hints owner (fields_of_record record_type class ttl) pieces octets after;
+  }
+
+  abbrev pub record_past : List (List ℕ) → ℕ → ℕ → ℕ → List Piece → ItemPast
+  record_past owner record_type class ttl pieces = record {
+    of_opt = record_type == opt_code;
+    goes = λ limit b near hints. RecordGoesPast slot limit b near hints owner (fields_of_record record_type class ttl) pieces;
+  }

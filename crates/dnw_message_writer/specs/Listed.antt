@@ -1,13 +1,13 @@
 -- Records whose data are given as octets, every name in its wire form, and lists of such data.
-use Rattle.std.specs.Prelude.{◌≡◌, ◌≢◌, ℕ, ◌+◌, ◌≤◌, List, [], ◌∷◌, drop, length, slice_index, slice_range}
+use Rattle.std.specs.Prelude.{◌≡◌, ◌≢◌, ℕ, ◌+◌, ◌≤◌, ◌==◌, List, [], ◌∷◌, drop, length, slice_index, slice_range}
 use Rattle.std.specs.Int.{w16, from_be_bytes}
 use Rattle.dnw_data.specs.Table.{fields_of}
 use Rattle.dnw_record.specs.DataPieces.{IsData}
 use Rattle.dnw_message_writer.specs.Data.{AreOfData}
 use Rattle.dnw_message_writer.specs.Hints.{slot_of}
-use Rattle.dnw_message_writer.specs.Items.{IsRecord, RecordGoesPast, fields_of_record}
+use Rattle.dnw_message_writer.specs.Items.{IsRecord, ItemForm, ItemPast, RecordGoesPast, fields_of_record, opt_code}
 use Rattle.dnw_message_writer.specs.Sets.{AddsSet}
-use Rattle.dnw_message_writer.specs.States.{FailsToAdd, ItemForm}
+use Rattle.dnw_message_writer.specs.States.{FailsToAdd}
 use Rattle.dnw_message_writer.specs.declared.listed.DataError.{DataError}
 use Rattle.dnw_message_writer.specs.declared.listed.DataError.TheVariants as errors
 use Rattle.dnw_message_writer.specs.declared.pieces.Piece.{Piece}
@@ -39,21 +39,27 @@ ListsData list ds = ListsThen list ds []
 module _ (owner : List (List ℕ)) (record_type class ttl : ℕ) where
   -- how a record with these data is written: in the pieces that they have
   abbrev pub data_form : List ℕ → ItemForm
-  data_form d b near hints octets after =
-      (xs : List Piece) × AreOfData (fields_of class record_type d) d xs
-      × IsRecord slot_of b near hints owner (fields_of_record record_type class ttl) xs octets after
+  data_form d = record {
+    is_opt = record_type == opt_code;
+    writes = λ b near hints octets after.
+        (xs : List Piece) × AreOfData (fields_of class record_type d) d xs
+        × IsRecord slot_of b near hints owner (fields_of_record record_type class ttl) xs octets after;
+  }
 
-  abbrev pub DataGoPast : List ℕ → ℕ → List ℕ → ℕ → List ℕ → Type 0
-  DataGoPast d limit b near hints =
-      (xs : List Piece) × AreOfData (fields_of class record_type d) d xs
-      × RecordGoesPast slot_of limit b near hints owner (fields_of_record record_type class ttl) xs
+  abbrev pub data_past : List ℕ → ItemPast
+  data_past d = record {
+    of_opt = record_type == opt_code;
+    goes = λ limit b near hints.
+        (xs : List Piece) × AreOfData (fields_of class record_type d) d xs
+        × RecordGoesPast slot_of limit b near hints owner (fields_of_record record_type class ttl) xs;
+  }
 
 module _ (s : Section) (owner : List (List ℕ)) (record_type class ttl : ℕ) where
   -- Why a record with these data is not added.
   abbrev pub FailsToAddData : List ℕ → WriterState → List ℕ → DataError → Type 0
   FailsToAddData d w m errors.List = ⊥
   FailsToAddData d w m errors.Data = IsData (fields_of class record_type d) d → ⊥
-  FailsToAddData d w m (errors.Write e) = FailsToAdd s (DataGoPast owner record_type class ttl d) w m e
+  FailsToAddData d w m (errors.Write e) = FailsToAdd s (data_past owner record_type class ttl d) w m e
 
   -- Why the next record of a list is not added.
   abbrev pub FailsNext : List ℕ → WriterState → List ℕ → DataError → Type 0

@@ -1,8 +1,8 @@
 -- How a query begins (RFC 1035, section 4.1.1; RFC 6891, section 6.1).
 use Rattle.std.specs.Prelude.{◌≡◌, ◌<◌, ◌⊎◌, ℕ, Bool, Option, Some, None, List, [], length, if◌then◌else◌}
 use Rattle.dnw_message_writer.specs.Hints.{slot_of}
-use Rattle.dnw_message_writer.specs.Items.{IsQuestion, QuestionGoesPast}
-use Rattle.dnw_message_writer.specs.Listed.{DataGoPast, data_form}
+use Rattle.dnw_message_writer.specs.Items.{opt_code, question_form, question_past}
+use Rattle.dnw_message_writer.specs.Listed.{data_form, data_past}
 use Rattle.dnw_message_writer.specs.Standing.{first_item}
 use Rattle.dnw_message_writer.specs.States.{AddsItem, BeginsMessage, FailsToAdd}
 use Rattle.dnw_message_writer.specs.declared.section.Section.TheVariants.{Queries, Additionals}
@@ -17,12 +17,12 @@ query_flags recursion_desired = if recursion_desired then 256 else 0
 -- An OPT record without options says the size of the messages that the sender accepts, if there is one to say.
 abbrev pub AddsSize : Option ℕ → WriterState → List ℕ → WriterState → List ℕ → Type 0
 AddsSize None w old after new = (after ≡ w) × (new ≡ old)
-AddsSize (Some size) w old after new = AddsItem Additionals (data_form [] 41 size 0 []) w old after new
+AddsSize (Some size) w old after new = AddsItem Additionals (data_form [] opt_code size 0 []) w old after new
 
 -- It has no room.
 abbrev pub FailsToAddSize : Option ℕ → WriterState → List ℕ → WriteError → Type 0
 FailsToAddSize None w m e = ⊥
-FailsToAddSize (Some size) w m e = FailsToAdd Additionals (DataGoPast [] 41 size 0 []) w m e
+FailsToAddSize (Some size) w m e = FailsToAdd Additionals (data_past [] opt_code size 0 []) w m e
 
 module _ (id flags max_size : ℕ) (name : List (List ℕ)) (query_type class : ℕ) (size : Option ℕ) (old : List ℕ) where
   -- A message begins, with a question, and says the size.
@@ -30,7 +30,7 @@ module _ (id flags max_size : ℕ) (name : List (List ℕ)) (query_type class : 
   BeginsQuery after new =
       (w : WriterState) × (begun : List ℕ) × BeginsMessage id flags max_size old w begun
       × (v : WriterState) × (asked : List ℕ)
-      × AddsItem Queries (λ b near hints octets more. IsQuestion slot_of b near hints name query_type class octets more) w begun v asked
+      × AddsItem Queries (question_form slot_of name query_type class) w begun v asked
       × AddsSize size v asked after new
 
   -- There is no room for the header, for the question, or for the size.
@@ -38,7 +38,7 @@ module _ (id flags max_size : ℕ) (name : List (List ℕ)) (query_type class : 
   FailsToQuery e =
       ((length old < first_item) × (e ≡ NoRoom))
       ⊎ ((w : WriterState) × (begun : List ℕ) × BeginsMessage id flags max_size old w begun
-      × (FailsToAdd Queries (λ limit b near hints. QuestionGoesPast slot_of limit b near hints name) w begun e
+      × (FailsToAdd Queries (question_past slot_of name) w begun e
       ⊎ ((v : WriterState) × (asked : List ℕ)
-      × AddsItem Queries (λ b near hints octets more. IsQuestion slot_of b near hints name query_type class octets more) w begun v asked
+      × AddsItem Queries (question_form slot_of name query_type class) w begun v asked
       × FailsToAddSize size v asked e)))

@@ -9,7 +9,7 @@ use Rattle.dnw_message_read.specs.Messages.{FailsMessage, MessageAt, MessageValu
 use Rattle.dnw_message_read.specs.declared.edns.EdnsError.{EdnsError}
 use Rattle.dnw_message_read.specs.declared.error.MessageError.{MessageError}
 use Rattle.dnw_message_writer.specs.Hints.{slot_of}
-use Rattle.dnw_message_writer.specs.Items.{IsQuestion, QuestionGoesPast}
+use Rattle.dnw_message_writer.specs.Items.{question_form, question_past}
 use Rattle.dnw_message_writer.specs.Standing.{first_item}
 use Rattle.dnw_message_writer.specs.States.{AddsItem, BeginsMessage, FailsToAdd}
 use Rattle.dnw_message_writer.specs.declared.reply.Asked.{Asked}
@@ -73,7 +73,7 @@ reply_code asked own = if asked.rcode == 0 then own % 16 else asked.rcode % 16
 abbrev pub AddsQuestion : Option QueryValue → WriterState → List ℕ → WriterState → List ℕ → Type 0
 AddsQuestion None w old after new = (after ≡ w) × (new ≡ old)
 AddsQuestion (Some q) w old after new =
-    AddsItem Queries (λ b near hints octets more. IsQuestion slot_of b near hints q.name (type_code q.query_type) (class_code q.query_class) octets more)
+    AddsItem Queries (question_form slot_of q.name (type_code q.query_type) (class_code q.query_class))
     w old after new
 
 -- A message begins, with a question, if there is one.
@@ -86,7 +86,7 @@ abbrev pub FailsToBeginAsked : Option QueryValue → ℕ → ℕ → ℕ → Lis
 FailsToBeginAsked query id flags max_size old e =
     ((length old < first_item) × (e ≡ NoRoom))
     ⊎ ((q : QueryValue) × (query ≡ Some q) × (w : WriterState) × (between : List ℕ) × BeginsMessage id flags max_size old w between
-    × FailsToAdd Queries (λ limit b near hints. QuestionGoesPast slot_of limit b near hints q.name) w between e)
+    × FailsToAdd Queries (question_past slot_of q.name) w between e)
 
 -- If the reply is to have an OPT record, 11 octets are held back for it.
 abbrev pub held_for : Asked → WriterState → WriterState

@@ -5,7 +5,7 @@ use Rattle.dnw_base.specs.Limits.{pointer_bits, pointer_offsets}
 use Rattle.dnw_base.specs.Names.{AreLabels, encoded_size}
 use Rattle.dnw_message_writer.specs.Contents.{AddedQuestion, AddedRecord}
 use Rattle.dnw_message_writer.specs.Inside.Fitting.{HasLabels, whole_size}
-use Rattle.dnw_message_writer.specs.Items.{IsNear, IsQuestion, IsRecord, QuestionGoesPast, RecordGoesPast, fields_of_record}
+use Rattle.dnw_message_writer.specs.Items.{IsNear, question_form, question_past, record_form, record_past}
 use Rattle.dnw_message_writer.specs.Standing.{first_item}
 use Rattle.dnw_message_writer.specs.States.{AddsItem, BeginsMessage, FailsToAdd, room_of}
 use Rattle.dnw_message_writer.specs.declared.pieces.Piece.{Piece}
@@ -29,18 +29,18 @@ whole_record r = encoded_size r.owner + 10 + whole_pieces r.pieces
 -- A question takes no more octets than with its name whole, and has no room only if it would have none so.
 abbrev pub QuestionsTakeNoMore : Type 0
 QuestionsTakeNoMore = (slot : List (List ℕ) → ℕ) (q : AddedQuestion) (w : WriterState) (old : List ℕ) → AreLabels q.name
-    → ((v : WriterState) (new : List ℕ) → AddsItem Queries (λ b near hints octets after. IsQuestion slot b near hints q.name q.query_type q.class octets after) w old v new
+    → ((v : WriterState) (new : List ℕ) → AddsItem Queries (question_form slot q.name q.query_type q.class) w old v new
     → v.end ≤ w.end + whole_question q)
-    × (FailsToAdd Queries (λ limit b near hints. QuestionGoesPast slot limit b near hints q.name) w old NoRoom → room_of w old < w.end + whole_question q)
+    × (FailsToAdd Queries (question_past slot q.name) w old NoRoom → room_of w old < w.end + whole_question q)
 
 -- So does a record.
 abbrev pub RecordsTakeNoMore : Type 0
 RecordsTakeNoMore = (slot : List (List ℕ) → ℕ) (s : Section) (r : AddedRecord) (w : WriterState) (old : List ℕ) → AreLabels r.owner
     → AllByRecursion HasLabels r.pieces
     → ((v : WriterState) (new : List ℕ)
-    → AddsItem s (λ b near hints octets after. IsRecord slot b near hints r.owner (fields_of_record r.record_type r.class r.ttl) r.pieces octets after) w old v new
+    → AddsItem s (record_form slot r.owner r.record_type r.class r.ttl r.pieces) w old v new
     → v.end ≤ w.end + whole_record r)
-    × (FailsToAdd s (λ limit b near hints. RecordGoesPast slot limit b near hints r.owner (fields_of_record r.record_type r.class r.ttl) r.pieces) w old NoRoom
+    × (FailsToAdd s (record_past slot r.owner r.record_type r.class r.ttl r.pieces) w old NoRoom
     → room_of w old < w.end + whole_record r)
 
 -- ---- owners that repeat
@@ -61,7 +61,7 @@ IsNearNext w m ls = IsNear (take w.end m) w.owner ls
 -- for the name already.
 abbrev pub QuestionsAreNear : Type 0
 QuestionsAreNear = (slot : List (List ℕ) → ℕ) (q : AddedQuestion) (w v : WriterState) (old new : List ℕ) → HintsAtLabels w old → AreLabels q.name
-    → AddsItem Queries (λ b near hints octets after. IsQuestion slot b near hints q.name q.query_type q.class octets after) w old v new
+    → AddsItem Queries (question_form slot q.name q.query_type q.class) w old v new
     → HintsAtLabels v new
     × (q.name ≢ [] → (w.end < pointer_offsets) ⊎ IsNearNext w old q.name → IsNearNext v new q.name)
 
@@ -69,7 +69,7 @@ QuestionsAreNear = (slot : List (List ℕ) → ℕ) (q : AddedQuestion) (w v : W
 abbrev pub RecordsAreNear : Type 0
 RecordsAreNear = (slot : List (List ℕ) → ℕ) (s : Section) (r : AddedRecord) (w v : WriterState) (old new : List ℕ) → HintsAtLabels w old
     → AreLabels r.owner → AllByRecursion HasLabels r.pieces
-    → AddsItem s (λ b near hints octets after. IsRecord slot b near hints r.owner (fields_of_record r.record_type r.class r.ttl) r.pieces octets after) w old v new
+    → AddsItem s (record_form slot r.owner r.record_type r.class r.ttl r.pieces) w old v new
     → HintsAtLabels v new
     × (r.owner ≢ [] → (w.end < pointer_offsets) ⊎ IsNearNext w old r.owner → IsNearNext v new r.owner)
 
@@ -77,5 +77,5 @@ RecordsAreNear = (slot : List (List ℕ) → ℕ) (s : Section) (r : AddedRecord
 abbrev pub NearOwnersTakeTwo : Type 0
 NearOwnersTakeTwo = (slot : List (List ℕ) → ℕ) (s : Section) (r : AddedRecord) (w v : WriterState) (old new : List ℕ) → IsNearNext w old r.owner
     → AllByRecursion HasLabels r.pieces
-    → AddsItem s (λ b near hints octets after. IsRecord slot b near hints r.owner (fields_of_record r.record_type r.class r.ttl) r.pieces octets after) w old v new
+    → AddsItem s (record_form slot r.owner r.record_type r.class r.ttl r.pieces) w old v new
     → v.end ≤ w.end + (2 + 10 + whole_pieces r.pieces)

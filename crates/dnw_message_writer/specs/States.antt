@@ -1,15 +1,15 @@
 -- A message while it is written: how an item is added to it, whole or not at all (RFC 1035, section 4.1).
-use Rattle.std.specs.Prelude.{◌≡◌, ℕ, ◌+◌, ◌-◌, ◌<◌, ◌≤◌, ◌⊎◌, min, List, [], ◌∷◌, ◌++◌, length, take, replicate, slice_index}
+use Rattle.std.specs.Prelude.{◌≡◌, ◌≢◌, ℕ, ◌+◌, ◌-◌, ◌<◌, ◌≤◌, ◌⊎◌, min, if◌then◌else◌, Bool, true, List, [], ◌∷◌, ◌++◌, length, take, replicate, slice_index}
 use Rattle.std.specs.Int.{w16, from_be_bytes, to_be_bytes}
 use Rattle.dnw_base.specs.Limits.{max_message}
 use Rattle.dnw_message_writer.specs.CompressedNames.{put_at}
-use Rattle.dnw_message_writer.specs.Items.{place_at}
+use Rattle.dnw_message_writer.specs.Items.{ItemForm, ItemPast, place_at}
 use Rattle.dnw_message_writer.specs.Sections.{offset_of_count, rank}
 use Rattle.dnw_message_writer.specs.Standing.{first_item}
 use Rattle.dnw_message_writer.specs.declared.section.Section.{Section}
 use Rattle.dnw_message_writer.specs.declared.section.Section.TheVariants.{Additionals}
 use Rattle.dnw_message_writer.specs.declared.section.WriteError.{WriteError}
-use Rattle.dnw_message_writer.specs.declared.section.WriteError.TheVariants.{NoMessage, NoRoom, OutOfOrder}
+use Rattle.dnw_message_writer.specs.declared.section.WriteError.TheVariants.{NoMessage, NoRoom, OutOfOrder, SecondOpt}
 use Rattle.dnw_message_writer.specs.declared.state.WriterState.{WriterState}
 
 -- the header of a message without items
@@ -20,7 +20,7 @@ empty_header id flags = to_be_bytes w16 id ++ (to_be_bytes w16 flags ++ replicat
 abbrev pub BeginsMessage : ℕ → ℕ → ℕ → List ℕ → WriterState → List ℕ → Type 0
 BeginsMessage id flags max_size old w new =
     (new ≡ put_at old 0 (empty_header id flags))
-    × (w ≡ record { end = first_item; max_size = max_size; reserved = 0; owner = 0; rank = 0; hints = replicate 512 0 })
+    × (w ≡ record { end = first_item; max_size = max_size; reserved = 0; owner = 0; rank = 0; has_opt = 0; hints = replicate 512 0 })
 
 -- how many items the header says that a section has
 abbrev pub count_in_header : Section → List ℕ → ℕ
@@ -40,48 +40,51 @@ pub record IsOfMessage (s : Section) (w : WriterState) (m : List ℕ) : Type 0 w
   pub there : first_item ≤ length m
   pub few : count_in_header s m < 65535
 
--- An item of a section may follow, up to this limit.
-pub record IsLimit (s : Section) (w : WriterState) (m : List ℕ) (limit : ℕ) : Type 0 where
+-- An OPT record may follow if there is none (RFC 6891, section 6.1.1).
+abbrev pub IsSingle : Bool → WriterState → Type 0
+IsSingle opt w = opt ≡ true → w.has_opt ≡ 0
+
+-- An item of a section, an OPT record or another, may follow, up to this limit.
+pub record IsLimit (s : Section) (opt : Bool) (w : WriterState) (m : List ℕ) (limit : ℕ) : Type 0 where
   pub message : IsOfMessage s w m
   pub ordered : w.rank ≤ rank s
+  pub single : IsSingle opt w
   pub limit_is : limit ≡ room_of w m
   pub room : w.end ≤ limit
 
--- No item of a section may follow: the first of these that holds says why.
-abbrev pub FailsToTakeLimit : Section → WriterState → List ℕ → WriteError → Type 0
-FailsToTakeLimit s w m e =
+-- It may not: the first of these that holds says why.
+abbrev pub FailsToTakeLimit : Section → Bool → WriterState → List ℕ → WriteError → Type 0
+FailsToTakeLimit s opt w m e =
     ((IsOfMessage s w m → ⊥) × (e ≡ NoMessage))
     ⊎ (IsOfMessage s w m × (rank s < w.rank) × (e ≡ OutOfOrder))
-    ⊎ (IsOfMessage s w m × (w.rank ≤ rank s) × (room_of w m < w.end) × (e ≡ NoRoom))
+    ⊎ (IsOfMessage s w m × (w.rank ≤ rank s) × (opt ≡ true) × (w.has_opt ≢ 0) × (e ≡ SecondOpt))
+    ⊎ (IsOfMessage s w m × (w.rank ≤ rank s) × IsSingle opt w × (room_of w m < w.end) × (e ≡ NoRoom))
 
--- the state after an item of a section that ends here
-abbrev pub added : Section → List ℕ → ℕ → WriterState → WriterState
-added s m end w = record {
+-- the state after an item of a section, an OPT record or another, that ends here
+abbrev pub added : Section → Bool → List ℕ → ℕ → WriterState → WriterState
+added s opt m end w = record {
   end = end;
   max_size = w.max_size;
   reserved = w.reserved;
   owner = place_at m w.end;
   rank = rank s;
+  has_opt = if opt then 1 else w.has_opt;
   hints = w.hints;
 }
-
--- how an item is written after a message, with the place of the last owner and hints: as these octets, and the hints become others
-abbrev pub ItemForm : Type 1
-ItemForm = List ℕ → ℕ → List ℕ → List ℕ → List ℕ → Type 0
 
 -- An item of this form is added: it is written at the end, and counted.
 abbrev pub AddsItem : Section → ItemForm → WriterState → List ℕ → WriterState → List ℕ → Type 0
 AddsItem s form w old after new =
-    (octets : List ℕ) × (hints : List ℕ) × form (take w.end old) w.owner w.hints octets hints
-    × IsLimit s w old (room_of w old) × (w.end + length octets ≤ room_of w old)
+    (octets : List ℕ) × (hints : List ℕ) × form.writes (take w.end old) w.owner w.hints octets hints
+    × IsLimit s form.is_opt w old (room_of w old) × (w.end + length octets ≤ room_of w old)
     × (new ≡ with_one_more s (put_at old w.end octets))
-    × (after ≡ added s (put_at old w.end octets) (w.end + length octets) (record w { hints = hints }))
+    × (after ≡ added s form.is_opt (put_at old w.end octets) (w.end + length octets) (record w { hints = hints }))
 
 -- It is not: no item may follow, or this one goes past the limit.
-abbrev pub FailsToAdd : Section → (ℕ → List ℕ → ℕ → List ℕ → Type 0) → WriterState → List ℕ → WriteError → Type 0
-FailsToAdd s goes_past w m e =
-    FailsToTakeLimit s w m e
-    ⊎ (IsLimit s w m (room_of w m) × goes_past (room_of w m) (take w.end m) w.owner w.hints × (e ≡ NoRoom))
+abbrev pub FailsToAdd : Section → ItemPast → WriterState → List ℕ → WriteError → Type 0
+FailsToAdd s past w m e =
+    FailsToTakeLimit s past.of_opt w m e
+    ⊎ (IsLimit s past.of_opt w m (room_of w m) × past.goes (room_of w m) (take w.end m) w.owner w.hints × (e ≡ NoRoom))
 
 -- the state that holds back so many octets fewer
 abbrev pub released : ℕ → WriterState → WriterState

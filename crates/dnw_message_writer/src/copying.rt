@@ -8,8 +8,8 @@ ghost use Rattle.dnw_message_writer.specs.Copying.{AreOfOneSet, CopiesHeld, Copi
 ghost use Rattle.dnw_message_writer.specs.Inside.CopiedSets.{AddsFirstSet, first_of};
 ghost use Rattle.dnw_message_writer.specs.Inside.Turns.{KeptCount};
 ghost use Rattle.dnw_message_writer.specs.Hints.{slot_of};
-ghost use Rattle.dnw_message_writer.specs.Items.{IsQuestion, QuestionGoesPast};
-ghost use Rattle.dnw_message_writer.specs.Listed.{DataGoPast, data_form};
+ghost use Rattle.dnw_message_writer.specs.Items.{question_form, question_past};
+ghost use Rattle.dnw_message_writer.specs.Listed.{data_form, data_past};
 ghost use Rattle.dnw_message_writer.specs.Sets.{AddsSet};
 ghost use Rattle.dnw_message_writer.specs.States.{AddsItem, BeginsMessage, FailsToAdd};
 ghost use Rattle.dnw_message_writer.specs.declared.section.Section.TheVariants as Sections;
@@ -62,7 +62,7 @@ impl WriterState {
     /// Creates a state of no message: it is for `begin`, `reply_to` or `copy`.
     #[inline(always)]
     pub fn new() -> Self
-        ensures { result ≡ record { end = 0; max_size = 0; reserved = 0; owner = 0; rank = 0; hints = replicate 512 0 } }
+        ensures { result ≡ record { end = 0; max_size = 0; reserved = 0; owner = 0; rank = 0; has_opt = 0; hints = replicate 512 0 } }
     {
         WriterState {
             end: 0,
@@ -70,6 +70,7 @@ impl WriterState {
             reserved: 0,
             owner: 0,
             rank: 0,
+            has_opt: 0,
             hints: [0; SLOTS],
         }
     }
@@ -130,7 +131,7 @@ impl WriterState {
     ) -> Result<(), WriteError>
         requires { IsData (fields_of class record_type octets.now) octets.now }
         ensures ok { OnOk result (AddsItem section (data_form owner.now record_type class ttl octets.now) self.old message.old self.new message.new) }
-        ensures err { IfErr result (FailsToAdd section (DataGoPast owner.now record_type class ttl octets.now) self.old message.old) }
+        ensures err { IfErr result (FailsToAdd section (data_past owner.now record_type class ttl octets.now) self.old message.old) }
         ensures same { OnErr result ((self.new ≡ self.old) × (take self.old.end message.new ≡ take self.old.end message.old)) }
         ensures fit { (record_type < 2 ^ 16) × (class < 2 ^ 16) × (ttl < 2 ^ 32) × AreLabels owner.now }
     {
@@ -271,8 +272,8 @@ impl WriterState {
         query_type: u16,
         class: u16,
     ) -> Result<(), WriteError>
-        ensures ok { OnOk result (AddsItem Sections.Queries (λ b near hints octets after. IsQuestion slot_of b near hints name.now query_type class octets after) self.old message.old self.new message.new) }
-        ensures err { IfErr result (FailsToAdd Sections.Queries (λ limit b near hints. QuestionGoesPast slot_of limit b near hints name.now) self.old message.old) }
+        ensures ok { OnOk result (AddsItem Sections.Queries (question_form slot_of name.now query_type class) self.old message.old self.new message.new) }
+        ensures err { IfErr result (FailsToAdd Sections.Queries (question_past slot_of name.now) self.old message.old) }
         ensures fit { (query_type < 2 ^ 16) × (class < 2 ^ 16) × AreLabels name.now }
     {
         let mut room = [0; MAX_NAME];

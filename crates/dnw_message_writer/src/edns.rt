@@ -1,8 +1,8 @@
 //! EDNS: an `OPT` record, and padding (RFC 6891, section 6.1; RFC 7830; RFC 8467).
-ghost use Rattle.std.specs.Prelude.{◌≡◌, ◌↔◌, ◌+◌, ◌*◌, ◌<◌, ◌≤◌, ◌^◌, ◌++◌, [], Some, None, length, take, IfErr, IfSome, IsTrue, MatchOption, OnErr, OnOk};
+ghost use Rattle.std.specs.Prelude.{◌≡◌, ◌↔◌, ◌+◌, ◌<◌, ◌≤◌, ◌++◌, [], Some, None, take, IfErr, IfSome, IsTrue, MatchOption, OnErr, OnOk};
 ghost use Rattle.dnw_message_read.specs.Edns.{HasOptions, first_option, option_of};
-ghost use Rattle.dnw_message_writer.specs.Edns.{AddsOpt, FailsToAddOpt, ttl_of_edns, lacking, padding_size};
-ghost use Rattle.dnw_message_writer.specs.Listed.{DataGoPast, data_form};
+ghost use Rattle.dnw_message_writer.specs.Edns.{AddsOpt, AddsOptItem, FailsToAddOpt, FailsToAddOptItem, ttl_of_edns, lacking, padding_size};
+ghost use Rattle.dnw_message_writer.specs.Listed.{data_form, data_past};
 ghost use Rattle.dnw_message_writer.specs.States.{AddsItem, FailsToAdd, released, room_of};
 ghost use Rattle.dnw_message_writer.specs.declared.section.Section.TheVariants as Sections;
 
@@ -41,6 +41,8 @@ impl WriterState {
     ///
     /// If `block` is not 0, the option `Padding` is added after the others, so that the message, with the octets that are still held
     /// back, has a multiple of so many octets; but not if there is no room for it (RFC 7830, section 4).
+    ///
+    /// It fails with `CutOption` if the options end within an option, and with `SecondOpt` if the message has an `OPT` record already.
     pub fn edns(
         &mut self,
         message: &mut [u8],
@@ -53,6 +55,9 @@ impl WriterState {
         ensures err { IfErr result (FailsToAddOpt edns.now block (released held self.old) message.old) }
         ensures same { OnErr result ((self.new ≡ self.old) × (take self.old.end message.new ≡ take self.old.end message.old)) }
     {
+        if !are_options(edns.options) {
+            return Err(WriteError::CutOption);
+        }
         let reserved = self.reserved;
         self.give_back(held);
         let added = self.add_opt(message, edns, block);
@@ -70,8 +75,8 @@ impl WriterState {
         block: usize,
     ) -> Result<(), WriteError>
         requires { block ≤ 512 }
-        ensures ok { OnOk result (AddsOpt edns.now block self.old message.old self.new message.new) }
-        ensures err { IfErr result (FailsToAddOpt edns.now block self.old message.old) }
+        ensures ok { OnOk result (AddsOptItem edns.now block self.old message.old self.new message.new) }
+        ensures err { IfErr result (FailsToAddOptItem edns.now block self.old message.old) }
         ensures same { OnErr result ((self.new ≡ self.old) × (take self.old.end message.new ≡ take self.old.end message.old)) }
     {
         let ttl = ttl_of(edns);
@@ -103,7 +108,7 @@ impl WriterState {
         zeros: &'p [u8],
     ) -> Result<(), WriteError>
         ensures ok { OnOk result (AddsItem Sections.Additionals (data_form [] 41 class ttl (options.now ++ (head.now ++ zeros.now))) self.old message.old self.new message.new) }
-        ensures err { IfErr result (FailsToAdd Sections.Additionals (DataGoPast [] 41 class ttl (options.now ++ (head.now ++ zeros.now))) self.old message.old) }
+        ensures err { IfErr result (FailsToAdd Sections.Additionals (data_past [] 41 class ttl (options.now ++ (head.now ++ zeros.now))) self.old message.old) }
         ensures same { OnErr result ((self.new ≡ self.old) × (take self.old.end message.new ≡ take self.old.end message.old)) }
     {
         self.record(

@@ -1,7 +1,7 @@
 //! Octets that are held back, and a last record (RFC 8945, section 5.1).
-ghost use Rattle.std.specs.Prelude.{◌≡◌, ◌+◌, ◌-◌, ◌≤◌, min, take, OnOk, IfErr, OnErr};
+ghost use Rattle.std.specs.Prelude.{◌≡◌, ◌+◌, ◌-◌, min, take, OnOk, IfErr, OnErr};
 ghost use Rattle.dnw_message_writer.specs.Hints.{slot_of};
-ghost use Rattle.dnw_message_writer.specs.Items.{IsRecord, RecordGoesPast, fields_of_record};
+ghost use Rattle.dnw_message_writer.specs.Items.{record_form, record_past};
 ghost use Rattle.dnw_message_writer.specs.States.{AddsLastItem, FailsToAdd, released};
 ghost use Rattle.dnw_message_writer.specs.declared.section.Section.TheVariants as Sections;
 
@@ -42,8 +42,8 @@ impl WriterState {
         ttl: u32,
         pieces: &[Piece<'_>],
     ) -> Result<(), WriteError>
-        ensures ok { OnOk result (AddsLastItem (λ b near hints octets after. IsRecord slot_of b near hints owner.entry (fields_of_record record_type class ttl) pieces.now octets after) (released held self.old) message.old self.new message.new) }
-        ensures err { IfErr result (FailsToAdd Sections.Additionals (λ limit b near hints. RecordGoesPast slot_of limit b near hints owner.entry (fields_of_record record_type class ttl) pieces.now) (released held self.old) message.old) }
+        ensures ok { OnOk result (AddsLastItem (record_form slot_of owner.entry record_type class ttl pieces.now) (released held self.old) message.old self.new message.new) }
+        ensures err { IfErr result (FailsToAdd Sections.Additionals (record_past slot_of owner.entry record_type class ttl pieces.now) (released held self.old) message.old) }
         ensures same { OnErr result ((self.new ≡ self.old) × (take self.old.end message.new ≡ take self.old.end message.old)) }
     {
         let reserved = self.reserved;

@@ -1,5 +1,5 @@
 //! Sections of a message that is written.
-ghost use Rattle.std.specs.Prelude.{◌≡◌, ◌<◌, ◌≤◌, ◌+◌};
+ghost use Rattle.std.specs.Prelude.{◌≡◌, ◌≤◌, ◌+◌};
 ghost use Rattle.dnw_message_writer.specs.Sections.{offset_of_count, rank};
 
 use thiserror::Error;
@@ -54,4 +54,10 @@ pub enum WriteError {
     /// The item, as it would be written, does not fit.
     #[error("the message has no room for the item")]
     NoRoom,
+    /// The message has an `OPT` record already (RFC 6891, section 6.1.1).
+    #[error("the message has an OPT record already")]
+    SecondOpt,
+    /// The options of an `OPT` record end within an option (RFC 6891, section 6.1.2).
+    #[error("an option of the OPT record is cut")]
+    CutOption,
 }

@@ -1,8 +1,8 @@
 //! Sets of records, which are added whole or not at all (RFC 2181, section 5).
-ghost use Rattle.std.specs.Prelude.{◌≡◌, ◌≢◌, ◌≤◌, ◌∷◌, [], Err, length, take, OnOk, IfErr, OnErr};
+ghost use Rattle.std.specs.Prelude.{◌≡◌, ◌≢◌, ◌≤◌, Err, length, take, OnOk, IfErr, OnErr};
 ghost use Rattle.dnw_message_writer.specs.Hints.{slot_of};
 ghost use Rattle.dnw_message_writer.specs.Inside.Turns.{KeptCount, count_octets};
-ghost use Rattle.dnw_message_writer.specs.Items.{IsRecord, RecordGoesPast, fields_of_record};
+ghost use Rattle.dnw_message_writer.specs.Items.{record_form, record_past};
 ghost use Rattle.dnw_message_writer.specs.Sets.{AddsSet, CutsOff, FailsToAddSet, cut_off};
 ghost use Rattle.dnw_message_writer.specs.declared.section.WriteError.TheVariants.{NoRoom};
 
@@ -33,8 +33,8 @@ impl WriterState {
         ttl: u32,
         set: &[Data<'_>],
     ) -> Result<(), WriteError>
-        ensures ok { OnOk result (AddsSet section (λ d b near hints octets after. IsRecord slot_of b near hints owner.entry (fields_of_record record_type class ttl) d.pieces.now octets after) set.now self.old message.old self.new message.new) }
-        ensures err { IfErr result (FailsToAddSet section (λ d b near hints octets after. IsRecord slot_of b near hints owner.entry (fields_of_record record_type class ttl) d.pieces.now octets after) (λ d limit b near hints. RecordGoesPast slot_of limit b near hints owner.entry (fields_of_record record_type class ttl) d.pieces.now) set.now self.old message.old) }
+        ensures ok { OnOk result (AddsSet section (λ d. record_form slot_of owner.entry record_type class ttl d.pieces.now) set.now self.old message.old self.new message.new) }
+        ensures err { IfErr result (FailsToAddSet section (λ d. record_form slot_of owner.entry record_type class ttl d.pieces.now) (λ d. record_past slot_of owner.entry record_type class ttl d.pieces.now) set.now self.old message.old) }
         ensures same { OnErr result ((self.new ≡ self.old) × (take self.old.end message.new ≡ take self.old.end message.old)) }
     {
         let saved = *self;
@@ -61,8 +61,8 @@ impl WriterState {
         ttl: u32,
         set: &[Data<'_>],
     ) -> Result<(), WriteError>
-        ensures ok { OnOk result (AddsSet section (λ d b near hints octets after. IsRecord slot_of b near hints owner.entry (fields_of_record record_type class ttl) d.pieces.now octets after) set.now self.old message.old self.new message.new) }
-        ensures err { IfErr result (FailsToAddSet section (λ d b near hints octets after. IsRecord slot_of b near hints owner.entry (fields_of_record record_type class ttl) d.pieces.now octets after) (λ d limit b near hints. RecordGoesPast slot_of limit b near hints owner.entry (fields_of_record record_type class ttl) d.pieces.now) set.now self.old message.old) }
+        ensures ok { OnOk result (AddsSet section (λ d. record_form slot_of owner.entry record_type class ttl d.pieces.now) set.now self.old message.old self.new message.new) }
+        ensures err { IfErr result (FailsToAddSet section (λ d. record_form slot_of owner.entry record_type class ttl d.pieces.now) (λ d. record_past slot_of owner.entry record_type class ttl d.pieces.now) set.now self.old message.old) }
         ensures same { OnErr result (self.new ≡ self.old) }
         ensures cut { result ≡ Err NoRoom → CutsOff self.old.end message.old message.new }
         ensures uncut { IfErr result (λ e. e ≢ NoRoom → take self.old.end message.new ≡ take self.old.end message.old) }
@@ -85,8 +85,8 @@ impl WriterState {
         ttl: u32,
         set: &[Data<'_>],
     ) -> Result<(), WriteError>
-        ensures ok { OnOk result (AddsSet section (λ d b near hints octets after. IsRecord slot_of b near hints owner.entry (fields_of_record record_type class ttl) d.pieces.now octets after) set.now self.old message.old self.new message.new) }
-        ensures err { IfErr result (FailsToAddSet section (λ d b near hints octets after. IsRecord slot_of b near hints owner.entry (fields_of_record record_type class ttl) d.pieces.now octets after) (λ d limit b near hints. RecordGoesPast slot_of limit b near hints owner.entry (fields_of_record record_type class ttl) d.pieces.now) set.now self.old message.old) }
+        ensures ok { OnOk result (AddsSet section (λ d. record_form slot_of owner.entry record_type class ttl d.pieces.now) set.now self.old message.old self.new message.new) }
+        ensures err { IfErr result (FailsToAddSet section (λ d. record_form slot_of owner.entry record_type class ttl d.pieces.now) (λ d. record_past slot_of owner.entry record_type class ttl d.pieces.now) set.now self.old message.old) }
         ensures kept { KeptCount section (take self.old.end message.old) (take self.old.end message.new) }
         ensures size { length message.new ≡ length message.old }
     {

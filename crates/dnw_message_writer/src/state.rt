@@ -1,9 +1,9 @@
 //! Messages, written item by item.
-ghost use Rattle.std.specs.Prelude.{◌≡◌, ◌<◌, ◌≤◌, ◌+◌, ◌^◌, ◌++◌, length, take, IfOk, IfErr, OnOk, OnErr};
+ghost use Rattle.std.specs.Prelude.{◌≡◌, ◌<◌, ◌≤◌, ◌+◌, length, take, IfOk, IfErr, OnOk, OnErr};
 ghost use Rattle.dnw_base.specs.Limits.{max_message};
 ghost use Rattle.dnw_message_writer.specs.CompressedNames.{put_at};
 ghost use Rattle.dnw_message_writer.specs.Hints.{slot_of};
-ghost use Rattle.dnw_message_writer.specs.Items.{IsQuestion, IsRecord, QuestionGoesPast, RecordGoesPast, fields_of_record};
+ghost use Rattle.dnw_message_writer.specs.Items.{question_form, question_past, record_form, record_past};
 ghost use Rattle.dnw_message_writer.specs.States.{AddsItem, BeginsMessage, FailsToAdd, FailsToTakeLimit, IsLimit, added, with_one_more, room_of, count_in_header};
 ghost use Rattle.dnw_message_writer.specs.declared.section.Section.TheVariants as Sections;
 ghost use Rattle.dnw_message_writer.specs.declared.section.WriteError.TheVariants.{NoRoom};
@@ -17,6 +17,9 @@ use crate::standing::FIRST_ITEM;
 use crate::whole::{add_question, add_record};
 use dnw_base::limits::MAX_MESSAGE;
 use dnw_name_form::wire_labels::WireLabels;
+
+/// The code of the type `OPT` (RFC 6891, section 6.1.1).
+const OPT: u16 = 41;
 
 /// What a writer knows of the message that it writes into a buffer: plain data without an invariant.
 ///
@@ -35,6 +38,8 @@ pub struct WriterState {
     pub owner: u16,
     /// How many sections are before that of the last item.
     pub rank: u8,
+    /// 1 if the message has an `OPT` record, and else 0.
+    pub has_opt: u8,
     /// Where suffixes of names may stand.
     pub hints: [u16; SLOTS],
 }
@@ -68,6 +73,7 @@ impl WriterState {
             reserved: 0,
             owner: 0,
             rank: 0,
+            has_opt: 0,
             hints: [0; SLOTS],
         };
         Ok(())
@@ -81,11 +87,11 @@ impl WriterState {
         query_type: u16,
         class: u16,
     ) -> Result<(), WriteError>
-        ensures ok { OnOk result (AddsItem Sections.Queries (λ b near hints octets after. IsQuestion slot_of b near hints name.entry query_type class octets after) self.old message.old self.new message.new) }
-        ensures err { IfErr result (FailsToAdd Sections.Queries (λ limit b near hints. QuestionGoesPast slot_of limit b near hints name.entry) self.old message.old) }
+        ensures ok { OnOk result (AddsItem Sections.Queries (question_form slot_of name.entry query_type class) self.old message.old self.new message.new) }
+        ensures err { IfErr result (FailsToAdd Sections.Queries (question_past slot_of name.entry) self.old message.old) }
         ensures same { OnErr result ((self.new ≡ self.old) × (take self.old.end message.new ≡ take self.old.end message.old)) }
     {
-        let limit = self.limit_for(message, Section::Queries)?;
+        let limit = self.limit_for(message, Section::Queries, false)?;
         match add_question(
             message,
             self.end,
@@ -97,14 +103,15 @@ impl WriterState {
             class,
         ) {
             Some(end) => {
-                self.close(message, Section::Queries, end);
+                self.close(message, Section::Queries, false, end);
                 Ok(())
             }
             None => Err(WriteError::NoRoom),
         }
     }
 
-    /// Adds a record to a section, or nothing of it (RFC 1035, section 4.1.3).
+    /// Adds a record to a section, or nothing of it (RFC 1035, section 4.1.3). A message has one `OPT` record at most (RFC 6891,
+    /// section 6.1.1).
     #[inline(always)]
     pub fn record(
         &mut self,
@@ -116,11 +123,12 @@ impl WriterState {
         ttl: u32,
         pieces: &[Piece<'_>],
     ) -> Result<(), WriteError>
-        ensures ok { OnOk result (AddsItem section (λ b near hints octets after. IsRecord slot_of b near hints owner.entry (fields_of_record record_type class ttl) pieces.now octets after) self.old message.old self.new message.new) }
-        ensures err { IfErr result (FailsToAdd section (λ limit b near hints. RecordGoesPast slot_of limit b near hints owner.entry (fields_of_record record_type class ttl) pieces.now) self.old message.old) }
+        ensures ok { OnOk result (AddsItem section (record_form slot_of owner.entry record_type class ttl pieces.now) self.old message.old self.new message.new) }
+        ensures err { IfErr result (FailsToAdd section (record_past slot_of owner.entry record_type class ttl pieces.now) self.old message.old) }
         ensures same { OnErr result ((self.new ≡ self.old) × (take self.old.end message.new ≡ take self.old.end message.old)) }
     {
-        let limit = self.limit_for(message, section)?;
+        let is_opt = record_type == OPT;
+        let limit = self.limit_for(message, section, is_opt)?;
         let fields = record_fields(record_type, class, ttl);
         match add_record(
             message,
@@ -133,18 +141,18 @@ impl WriterState {
             pieces,
         ) {
             Some(end) => {
-                self.close(message, section, end);
+                self.close(message, section, is_opt, end);
                 Ok(())
             }
             None => Err(WriteError::NoRoom),
         }
     }
 
-    /// Returns the offset up to which an item of this section may go.
+    /// Returns the offset up to which an item of this section, an `OPT` record or another, may go.
     #[inline(always)]
-    fn limit_for(&self, message: &[u8], section: Section) -> Result<usize, WriteError>
-        ensures ok { IfOk result (IsLimit section self.now message.now) }
-        ensures err { IfErr result (FailsToTakeLimit section self.now message.now) }
+    fn limit_for(&self, message: &[u8], section: Section, is_opt: bool) -> Result<usize, WriteError>
+        ensures ok { IfOk result (IsLimit section is_opt self.now message.now) }
+        ensures err { IfErr result (FailsToTakeLimit section is_opt self.now message.now) }
     {
         if self.end < FIRST_ITEM
             || message.len() < FIRST_ITEM
@@ -154,6 +162,9 @@ impl WriterState {
         }
         if section.rank() < self.rank {
             return Err(WriteError::OutOfOrder);
+        }
+        if is_opt && self.has_opt != 0 {
+            return Err(WriteError::SecondOpt);
         }
         let limit = self.room_of(message);
         if limit < self.end {
@@ -175,16 +186,19 @@ impl WriterState {
 
     /// Takes an item as added, which ends here: counts it, and keeps the place of its owner.
     #[inline(always)]
-    fn close(&mut self, message: &mut [u8], section: Section, end: usize)
+    fn close(&mut self, message: &mut [u8], section: Section, is_opt: bool, end: usize)
         requires header { 12 ≤ length message.old }
         requires few { count_in_header section message.old < 65535 }
         requires at { self.old.end ≤ max_message }
-        ensures state { self.new ≡ added section message.old end self.old }
+        ensures state { self.new ≡ added section is_opt message.old end self.old }
         ensures message { message.new ≡ with_one_more section message.old }
     {
         self.owner = place_at(message, self.end);
         self.end = end;
         self.rank = section.rank();
+        if is_opt {
+            self.has_opt = 1;
+        }
         let count = count_of(message, section) + 1;
         put_at(message, section.offset_of_count(), &count.to_be_bytes());
     }

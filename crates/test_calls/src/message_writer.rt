@@ -25,6 +25,7 @@ fn no_message() -> WriterState {
         reserved: 0,
         owner: 0,
         rank: 0,
+        has_opt: 0,
         hints: [0; SLOTS],
     }
 }
@@ -202,7 +203,13 @@ fn a_reply_has_the_question_edns_and_padding(rt: HostRuntime) -> Result<(), Fail
         dnssec_ok: true,
         options: b"",
     };
+    let cut = Edns {
+        options: b"\x00\x03\x00\x01",
+        ..edns
+    };
+    assert!(rt; state.edns(&mut buffer, 11, &cut, 64) == Err(WriteError::CutOption));
     assert!(rt; state.edns(&mut buffer, 11, &edns, 64).is_ok());
+    assert!(rt; state.edns(&mut buffer, 0, &edns, 0) == Err(WriteError::SecondOpt));
     assert!(rt; state.end == REPLY.len() && &buffer[..state.end] == REPLY);
     Ok(())
 }

@@ -1,8 +1,8 @@
 -- A message that was written is read.
 use Rattle.std.proofs.Common.{◌≡◌, ℕ, ◌<◌, ◌^◌, List, [], ◌∷◌, length, Result, Ok, Err, IfOk, IfErr, Bor, refl, subst, rules, arith}
 use Rattle.std.specs.Result.{IsOk}
-use Rattle.dns_names_wire.specs.Words.{AddedQuestion, AddedRecord, AddsItem, Answers, AreLabels, BeginsMessage, BegunMessagesAreEmpty, HoldsItems, IsQuestion, IsRecord, Queries}
-use Rattle.dns_names_wire.specs.Words.{QuestionsAreAdded, RecordsAreAdded, WriterState, fields_of_record, no_items, slot_of, with_question}
+use Rattle.dns_names_wire.specs.Words.{AddedQuestion, AddedRecord, AddsItem, Answers, AreLabels, BeginsMessage, BegunMessagesAreEmpty, HoldsItems, Queries}
+use Rattle.dns_names_wire.specs.Words.{QuestionsAreAdded, RecordsAreAdded, WriterState, no_items, question_form, record_form, slot_of, with_question}
 use Rattle.dns_names_wire.specs.declared.message_writer.Piece.TheVariants.{Octets}
 use Rattle.uses.specs.Messages.{response}
 
@@ -19,14 +19,13 @@ ok_holds {A} {E} holds r x is h = subst (λ (o : Result A E). IfOk o holds) is h
 pub response_is_held : BegunMessagesAreEmpty → QuestionsAreAdded → RecordsAreAdded → (id : ℕ) (name asked_name owner : List (List ℕ)) (address : Bor (List ℕ))
     (old begun asked made : List ℕ) (w v u : WriterState) → id < 2 ^ 16 → length begun ≡ length old → asked_name ≡ name → owner ≡ name → AreLabels name
     → BeginsMessage id 33792 512 old w begun
-    → AddsItem Queries (λ b near hints octets after. IsQuestion slot_of b near hints asked_name 1 1 octets after) w begun v asked
-    → AddsItem Answers (λ b near hints octets after. IsRecord slot_of b near hints owner (fields_of_record 1 1 3600) (Octets address ∷ []) octets after) v asked u made
+    → AddsItem Queries (question_form slot_of asked_name 1 1) w begun v asked
+    → AddsItem Answers (record_form slot_of owner 1 1 3600 (Octets address ∷ [])) v asked u made
     → HoldsItems id 33792 (response name address) u made
 response_is_held empty question answer id name asked_name owner address old begun asked made w v u fits same asked_is owner_is labels begins asks answers =
-    let asks_it = subst (λ (n : List (List ℕ)). AddsItem Queries (λ b near hints octets after. IsQuestion slot_of b near hints n 1 1 octets after) w begun v asked)
+    let asks_it = subst (λ (n : List (List ℕ)). AddsItem Queries (question_form slot_of n 1 1) w begun v asked)
     asked_is asks in
-    let answers_it = subst (λ (n : List (List ℕ)). AddsItem Answers (λ b near hints octets after.
-    IsRecord slot_of b near hints n (fields_of_record 1 1 3600) (Octets address ∷ []) octets after) v asked u made) owner_is answers in
+    let answers_it = subst (λ (n : List (List ℕ)). AddsItem Answers (record_form slot_of n 1 1 3600 (Octets address ∷ [])) v asked u made) owner_is answers in
     let (octets, hints, form, limit, room, new_is, after_is) = asks_it in
     let q : AddedQuestion = record { name = name; query_type = 1; class = 1 } in
     let r : AddedRecord = record { owner = name; record_type = 1; class = 1; ttl = 3600; pieces = Octets address ∷ [] } in

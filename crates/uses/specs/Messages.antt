@@ -1,8 +1,8 @@
 -- Messages that are written and read.
 use Rattle.std.specs.Prelude.{ℕ, List, [], ◌∷◌, ◌≡◌, ◌<◌, ◌⊎◌, length}
 use Rattle.std.specs.Borrow.{Bor}
-use Rattle.dns_names_wire.specs.Words.{AddedItems, AddsItem, Answers, BeginsMessage, FailsToAdd, HasItems, HeaderCounts, IsQuestion, MessageAt, MessageValue, Queries, QuestionGoesPast}
-use Rattle.dns_names_wire.specs.Words.{RecordGoesPast, WriterState, fields_of_record, no_items, slot_of, with_question, with_records}
+use Rattle.dns_names_wire.specs.Words.{AddedItems, AddsItem, Answers, BeginsMessage, FailsToAdd, HasItems, HeaderCounts, MessageAt, MessageValue, Queries}
+use Rattle.dns_names_wire.specs.Words.{WriterState, no_items, question_form, question_past, record_past, slot_of, with_question, with_records}
 use Rattle.dns_names_wire.specs.declared.message_writer.WriteError.{WriteError}
 use Rattle.dns_names_wire.specs.declared.message_writer.WriteError.TheVariants.{NoRoom}
 use Rattle.dns_names_wire.specs.declared.message_writer.Piece.TheVariants.{Octets}
@@ -23,8 +23,7 @@ abbrev pub FailsResponse : ℕ → List (List ℕ) → Bor (List ℕ) → List �
 FailsResponse id name address old error =
     ((error ≡ NoRoom) × (length old < 12))
     ⊎ ((w : WriterState) × (begun : List ℕ) × BeginsMessage id 33792 512 old w begun
-    × (FailsToAdd Queries (λ limit b near hints. QuestionGoesPast slot_of limit b near hints name) w begun error
+    × (FailsToAdd Queries (question_past slot_of name) w begun error
     ⊎ ((v : WriterState) × (asked : List ℕ)
-    × AddsItem Queries (λ b near hints octets after. IsQuestion slot_of b near hints name 1 1 octets after) w begun v asked
-    × FailsToAdd Answers (λ limit b near hints.
-    RecordGoesPast slot_of limit b near hints name (fields_of_record 1 1 3600) (Octets address ∷ [])) v asked error)))
+    × AddsItem Queries (question_form slot_of name 1 1) w begun v asked
+    × FailsToAdd Answers (record_past slot_of name 1 1 3600 (Octets address ∷ [])) v asked error)))

@@ -7,7 +7,7 @@ pub(crate) type Fixed = (u16, u16, u32);
 impl Writer {
     /// Returns a state that no message has yet.
     pub(crate) fn none() -> Self {
-        Writer { len: 0, max_size: 0, reserved: 0, owner: 0, rank: 0, edns: 0, hints: [0; 512] }
+        Writer { len: 0, max_size: 0, reserved: 0, owner: 0, rank: 0, has_opt: 0, hints: [0; 512] }
     }
 
     /// Begins a message with an id and flags.

@@ -1,7 +1,7 @@
 -- What was written is read, and is this response.
 use Rattle.std.proofs.Common.{◌≤◌, ℕ, List, [], ◌∷◌, ap, refl, subst, rules, inl, inr}
-use Rattle.dns_names_wire.specs.Words.{AddsItem, Answers, FailsMessage, FailsToAdd, IsQuestion, MessageAt, MessageValue, Queries, QuestionGoesPast, RecordGoesPast}
-use Rattle.dns_names_wire.specs.Words.{fields_of_record, max_pointers, slot_of}
+use Rattle.dns_names_wire.specs.Words.{AddsItem, Answers, FailsMessage, FailsToAdd, MessageAt, MessageValue, Queries}
+use Rattle.dns_names_wire.specs.Words.{max_pointers, question_form, question_past, record_past, slot_of}
 use Rattle.std.proofs.lemmas.Result.{err_from_is_err_and}
 use Rattle.dns_names_wire.specs.declared.message.Header.{Header}
 use Rattle.dns_names_wire.specs.declared.message_writer.Piece.TheVariants.{Octets}
@@ -39,7 +39,7 @@ returns-clause-ok c =
 pub returns-in_err-question-clause-err : goal.returns-in_err-question-clause-err
 returns-in_err-question-clause-err c =
     let error = c.in_err-question.field-0.0 in
-    let past = subst (λ (n : List (List ℕ)). FailsToAdd Queries (λ limit b near hints. QuestionGoesPast slot_of limit b near hints n) c.begin.new.self
+    let past = subst (λ (n : List (List ℕ)). FailsToAdd Queries (question_past slot_of n) c.begin.new.self
     c.begin.new.message error) c.wire_labels.ensures.labels c.in_err-question.ensures.err in
     let fails : FailsResponse c.args.id c.args.name.now.labels c.args.address c.args.message.now error =
     inr (c.begin.new.self, c.begin.new.message, c.in_ok-begin.ensures.ok, inl past) in
@@ -51,10 +51,9 @@ pub returns-in_err-record-clause-err : goal.returns-in_err-record-clause-err
 returns-in_err-record-clause-err c =
     let error = c.in_err-record.field-0.0 in
     let labels = c.args.name.now.labels in
-    let asks = subst (λ (n : List (List ℕ)). AddsItem Queries (λ b near hints octets after. IsQuestion slot_of b near hints n 1 1 octets after) c.begin.new.self
+    let asks = subst (λ (n : List (List ℕ)). AddsItem Queries (question_form slot_of n 1 1) c.begin.new.self
     c.begin.new.message c.question.new.self c.question.new.message) c.wire_labels.ensures.labels c.in_ok-question.ensures.ok in
-    let past = subst (λ (n : List (List ℕ)). FailsToAdd Answers (λ limit b near hints.
-    RecordGoesPast slot_of limit b near hints n (fields_of_record 1 1 3600) (Octets c.args.address ∷ [])) c.question.new.self
+    let past = subst (λ (n : List (List ℕ)). FailsToAdd Answers (record_past slot_of n 1 1 3600 (Octets c.args.address ∷ [])) c.question.new.self
     c.question.new.message error) c.wire_labels-2.ensures.labels c.in_err-record.ensures.err in
     let fails : FailsResponse c.args.id labels c.args.address c.args.message.now error =
     inr (c.begin.new.self, c.begin.new.message, c.in_ok-begin.ensures.ok, inr (c.question.new.self, c.question.new.message, asks, past)) in

@@ -1,6 +1,6 @@
-use Rattle.std.proofs.Common.{◌≡◌, ◌++◌, ◌∷◌, OnOk, IfErr, ℕ, List, [], get_or, length, replicate, take, ap, ◌∙◌, subst}
+use Rattle.std.proofs.Common.{◌≡◌, ◌++◌, ◌∷◌, OnOk, IfErr, [], get_or, replicate, take, ap, ◌∙◌, subst}
 use Rattle.dnw_message_writer.specs.Edns.{ttl_of_edns, opt_data, padding}
-use Rattle.dnw_message_writer.specs.Listed.{DataGoPast, data_form}
+use Rattle.dnw_message_writer.specs.Listed.{data_form, data_past}
 use Rattle.dnw_message_writer.specs.States.{AddsItem, FailsToAdd}
 use Rattle.dnw_message_writer.specs.declared.section.Section.TheVariants.{Additionals}
 use Rattle.dnw_message_writer.proofs.Opts.{padding_is}
@@ -24,6 +24,6 @@ returns-clause-err c =
     let same : options ++ ((0 ∷ 12 ∷ get_or len 0 0 ∷ get_or len 1 0 ∷ []) ++ take c.in-Some.size (replicate 512 0))
     ≡ opt_data c.args.edns.now c.args.block c.args.self.now c.args.message.now =
     ap (λ o. options ++ o) (padding_is len c.in-Some.size c.to_be_bytes-len.ensures c.in-Some.ensures.small ∙ ap padding c.in-Some.ensures.size) in
-    subst (λ d. IfErr c.opt_record-2.result (FailsToAdd Additionals (DataGoPast [] 41 c.args.edns.now.max_payload (ttl_of_edns c.args.edns.now) d) c.args.self.now
+    subst (λ d. IfErr c.opt_record-2.result (FailsToAdd Additionals (data_past [] 41 c.args.edns.now.max_payload (ttl_of_edns c.args.edns.now) d) c.args.self.now
     c.args.message.now)) same
     (rw c.ttl_of-ttl.ensures at c.opt_record-2.ensures.err)

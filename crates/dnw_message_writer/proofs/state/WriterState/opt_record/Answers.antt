@@ -1,9 +1,9 @@
-use Rattle.std.proofs.Common.{◌≡◌, ◌++◌, ◌∷◌, ℕ, List, [], ap, refl}
+use Rattle.std.proofs.Common.{◌≡◌, ◌++◌, ◌∷◌, List, [], ap, refl}
 use Rattle.std.specs.List.{flat_map}
 use Rattle.std.proofs.lemmas.List.{append-nil}
 use Rattle.dnw_data.specs.Table.{fields_of}
 use Rattle.dnw_message_writer.specs.Data.{AreOfData, whole_octets}
-use Rattle.dnw_message_writer.specs.Listed.{DataGoPast, data_form}
+use Rattle.dnw_message_writer.specs.Listed.{data_form, data_past}
 use Rattle.dnw_message_writer.specs.declared.pieces.Piece.{Piece}
 use Rattle.dnw_message_writer.specs.declared.pieces.Piece.TheVariants.{Octets}
 use Rattle.dnw_message_writer.specs.declared.section.Section.TheVariants.{Additionals}
@@ -18,7 +18,7 @@ returns-clause-ok c =
     let of : AreOfData (fields_of c.args.class 41 d) d xs = opt_pieces c.args.class d xs whole (λ at. refl) in
     on_ok_as c.record.result
     (adds_as Additionals _ (data_form [] 41 c.args.class c.args.ttl d) c.args.self.now c.args.message.now c.record.new.self c.record.new.message
-    (λ b near hints octets after is. (xs, of, is)))
+    refl (λ b near hints octets after is. (xs, of, is)))
     (rw (c.root.ensures, c.code.ensures) at c.record.ensures.ok)
 
 pub returns-clause-err : goal.returns-clause-err
@@ -28,5 +28,5 @@ returns-clause-err c =
     let whole : flat_map whole_octets xs ≡ d = ap (λ o. c.args.options.now ++ (c.args.head.now ++ o)) (append-nil c.args.zeros.now) in
     let of : AreOfData (fields_of c.args.class 41 d) d xs = opt_pieces c.args.class d xs whole (λ at. refl) in
     if_err_as c.record.result _ _
-    (λ e. fails_as Additionals _ (DataGoPast [] 41 c.args.class c.args.ttl d) c.args.self.now c.args.message.now e (λ limit b near hints goes. (xs, of, goes)))
+    (λ e. fails_as Additionals _ (data_past [] 41 c.args.class c.args.ttl d) c.args.self.now c.args.message.now e refl (λ limit b near hints goes. (xs, of, goes)))
     (rw (c.root.ensures, c.code.ensures) at c.record.ensures.err)
