@@ -3,3 +3,5 @@ pub mod TokenSizes
 pub mod TokenTexts
 pub mod ZoneForms
 pub mod StatesKept
+mod RecordPuts
+mod StateNames

@@ -94,11 +94,10 @@ record_entry at used owner r = record (plain_entry at 3 used) {
   record_class = class_code r.class;
 }
 
--- The record is put, unless memory runs out. No record that is read has too many octets of data.
+-- The record is put. No record that is read has too many octets of data.
 abbrev pub PutsRecord : FilePlace → ℕ → List ℕ → ZoneRecord → List ℕ → List ℕ → Result ZoneEntry Failure → Type 0
 PutsRecord at used owner r old new result =
     ((length r.wire.items ≤ max_data) × Puts (zone_record_octets owner r) (record_entry at used owner r) old new result)
-    ⊎ Refuses (λ failure. failure ≡ NoMemory) old new result
     ⊎ Refuses (λ failure. (max_data < length r.wire.items) × (failure ≡ DataTooLong)) old new result
 
 -- ---- files
@@ -121,7 +120,7 @@ include_entry at used origin file =
 -- The origin of an `$INCLUDE` and the name of its file are put, unless memory runs out.
 abbrev pub PutsFile : FilePlace → ℕ → Include → List ℕ → List ℕ → List ℕ → Result ZoneEntry Failure → Type 0
 PutsFile at used include file old new result =
-    Puts (wire include.origin.labels ++ file) (include_entry at used (wire include.origin.labels) file) old new result
+    Puts (wire include.origin.value.labels ++ file) (include_entry at used (wire include.origin.value.labels) file) old new result
     ⊎ Refuses (λ failure. failure ≡ NoMemory) old new result
 
 -- The `$INCLUDE` is put, or its file has no name.

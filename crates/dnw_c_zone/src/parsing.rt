@@ -2,6 +2,7 @@
 ghost use Rattle.std.specs.Prelude.{◌≡◌, IfOk, IfErr};
 ghost use Rattle.dnw_base.specs.DnsClasses.{class_of_code};
 ghost use Rattle.dnw_base.specs.RecordTypes.{type_of_code};
+ghost use Rattle.dnw_c_base.specs.WireForms.{IsFormOf, IsNoForm};
 ghost use Rattle.dnw_c_base.specs.Results.{Returns};
 ghost use Rattle.dnw_zone_record.specs.RecordEntries.{IsRecordEntry};
 ghost use Rattle.dnw_zone_record.specs.RecordLines.{IsDataOf};
@@ -14,6 +15,7 @@ use dnw_c_base::failure::Failure;
 use dnw_c_base::names::name_ref_at;
 use dnw_c_base::results::report;
 use dnw_name::name::Name;
+use dnw_name::name_ref::NameRef;
 use dnw_zone_record::entry::{RecordEntryError, parse_entry};
 use dnw_zone_record::record_line::{RecordLineError, data_of};
 use dnw_zone_record::word_error::WordRule;
@@ -83,11 +85,20 @@ pub(crate) fn origin_of(alloc: Global, form: &[u8]) -> Result<Option<Name>, Fail
     if form.is_empty() {
         return Ok(None);
     }
+    let name = ref_of(form)?;
+    Ok(Some(name.to_name(alloc).unwrap()))
+}
+
+/// Returns the name that a wire form is, without a copy.
+pub(crate) fn ref_of(form: &[u8]) -> Result<NameRef<'_>, Failure>
+    ensures ok { IfOk result (λ name. IsFormOf form.now name) }
+    ensures err { IfErr result (IsNoForm form.now) }
+{
     let (name, end) = name_ref_at(form, 0)?;
     if end != form.len() {
         return Err(Failure::BytesLeft);
     }
-    Ok(Some(name.to_name(alloc).unwrap()))
+    Ok(name)
 }
 
 /// Returns the octets of data of the class and the type with these codes.

@@ -1,6 +1,8 @@
 //! What C learns of an entry of a zone file.
-ghost use Rattle.std.specs.Prelude.{◌≡◌, ◌≤◌, ◌++◌, ℕ, List, length, take, drop, IfOk, IfErr, IfSome, IfNone};
+ghost use Rattle.std.specs.Prelude.{◌≡◌, ◌≤◌, ◌++◌, ℕ, ◌+◌, List, length, take, drop, IfOk, IfErr, IfSome, IfNone};
 ghost use Rattle.dnw_base.specs.Limits.{max_data, max_name};
+ghost use Rattle.dnw_c_zone.specs.Inside.RecordHeads.{record_head};
+ghost use Rattle.dnw_name_read.specs.Buffers.{put};
 ghost use Rattle.dnw_c_base.specs.declared.failure.Failure.TheVariants.{NoMemory};
 ghost use Rattle.dnw_c_zone.specs.ZoneStates.{owner_form};
 ghost use Rattle.dnw_c_zone.specs.ZoneEntries.{IsFile, PutsFile, PutsFound, PutsInclude, PutsRecord, fault_entry, fault_in, has_zero, is_file_name, no_file, plain_entry, reason_of_zone_rule, zone_record_octets};
@@ -20,6 +22,9 @@ use dnw_zone_values::error::FieldTextError;
 use dnw_zone_values::string::parse_text;
 use std::alloc::{AllocError, Global};
 use std::str;
+
+/// The number of octets of a record between its owner and its data (RFC 1035, section 3.2.1).
+const HEAD: usize = 10;
 
 /// What the text of a zone file begins with, as C learns it.
 #[repr(C)]
@@ -68,9 +73,7 @@ pub(crate) fn put_found(
         Ok(Found::End) => Ok(plain_entry(at, 0, used)),
         Ok(Found::More) => Ok(plain_entry(at, 1, used)),
         Ok(Found::Entry(Entry::Nothing)) => Ok(plain_entry(at, 2, used)),
-        Ok(Found::Entry(Entry::Record(found))) => {
-            put_record(alloc, at, used, context, found, octets)
-        }
+        Ok(Found::Entry(Entry::Record(found))) => { put_record(at, used, context, found, octets) }
         Ok(Found::Entry(Entry::Include(include))) => {
             put_include(alloc, at, used, text, include, octets)
         }
@@ -103,7 +106,6 @@ fn plain_entry(at: FilePlace, kind: u32, used: usize) -> ZoneEntry
 
 /// Puts a record: its owner, type, class, time to live, and data after their length.
 fn put_record(
-    alloc: Global,
     at: FilePlace,
     used: usize,
     context: &Context,
@@ -116,10 +118,11 @@ fn put_record(
     if found.wire.len() > MAX_DATA {
         return Err(Failure::DataTooLong);
     }
-    let Ok(own) = record_octets(alloc, owner, found) else {
-        return Err(Failure::NoMemory);
-    };
-    let len = put(octets, own.as_slice())?;
+    let len = owner.len() + HEAD + found.wire.len();
+    if octets.len() < len {
+        return Err(Failure::NoRoom);
+    }
+    put_pieces(octets, owner, &record_head(found), found.wire.as_slice());
     Ok(ZoneEntry {
         len,
         name_len: owner.len(),
@@ -131,20 +134,34 @@ fn put_record(
     })
 }
 
-/// Returns the octets of a record.
-fn record_octets(alloc: Global, owner: &[u8], found: &ZoneRecord) -> Result<Vec<u8>, AllocError>
-    requires few { length owner.now ≤ max_name }
+/// Returns the octets of a record between its owner and its data.
+fn record_head(found: &ZoneRecord) -> [u8; HEAD]
     requires data { length found.now.wire.items ≤ max_data }
-    ensures { IfOk result (λ own. own.items ≡ zone_record_octets owner.now found.now) }
+    ensures { result ≡ record_head found.now }
 {
-    let mut own = Vec::with_capacity(alloc, owner.len() + found.wire.len() + 10)?;
-    own.extend_from_slice(owner)?;
-    own.extend_from_slice(&found.record_type.code().to_be_bytes())?;
-    own.extend_from_slice(&found.class.code().to_be_bytes())?;
-    own.extend_from_slice(&found.ttl.to_be_bytes())?;
-    own.extend_from_slice(&(found.wire.len() as u16).to_be_bytes())?;
-    own.extend_from_slice(found.wire.as_slice())?;
-    Ok(own)
+    let [a, b] = found.record_type.code().to_be_bytes();
+    let [c, d] = found.class.code().to_be_bytes();
+    let [e, f, g, h] = found.ttl.to_be_bytes();
+    let [i, j] = (found.wire.len() as u16).to_be_bytes();
+    [a, b, c, d, e, f, g, h, i, j]
+}
+
+/// Puts three pieces, one after another, at the front of a buffer.
+fn put_pieces(buffer: &mut [u8], first: &[u8], second: &[u8], third: &[u8])
+    requires { length first.now + length second.now + length third.now ≤ length buffer.old }
+    ensures { buffer.new ≡ put buffer.old (first.now ++ second.now ++ third.now) }
+{
+    put_at(buffer, 0, first);
+    put_at(buffer, first.len(), second);
+    put_at(buffer, first.len() + second.len(), third);
+}
+
+/// Puts octets at an offset of a buffer.
+fn put_at(buffer: &mut [u8], start: usize, octets: &[u8])
+    requires { start + length octets.now ≤ length buffer.old }
+    ensures { buffer.new ≡ take start buffer.old ++ octets.now ++ drop (start + length octets.now) buffer.old }
+{
+    buffer[start..start + octets.len()].copy_from_slice(octets);
 }
 
 /// Puts an `$INCLUDE`: its origin, and the name of its file.

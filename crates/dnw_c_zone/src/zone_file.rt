@@ -7,7 +7,9 @@ ghost use Rattle.dnw_c_zone.specs.ZoneFileCalls.{BeginsZone, IncludesFile, IsGiv
 use crate::parsing::origin_of;
 use crate::zone_entry::{ZoneEntry, put_found};
 use crate::zone_place::{FilePlace, moved};
-use crate::zone_state::{ZoneState, context_of, place_of_state, put_state, zone_state_of};
+use crate::zone_state::{
+    ZoneState, context_of, fill_context, place_of_state, put_state, zone_state_of,
+};
 use dnw_c_base::failure::Failure;
 use dnw_c_base::results::report;
 use dnw_name::name::Name;
@@ -97,9 +99,10 @@ fn next(
     ensures takes { TakesZoneEntry text.now more zone.old octets.old octets.new (with_state result zone.new) }
     ensures same { IfErr result (λ _. zone.new ≡ zone.old) }
 {
-    let Some(mut context) = context_of(alloc, zone) else {
+    let mut context = Context::new(Name::root(alloc));
+    if !fill_context(alloc, &mut context, zone) {
         return Err(Failure::BadItem);
-    };
+    }
     let at = place_of_state(zone);
     let mut line = Vec::new(alloc);
     let step = take_entry(alloc, &mut context, text, more, &mut line);

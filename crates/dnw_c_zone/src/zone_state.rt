@@ -1,10 +1,12 @@
 //! What is known of a zone file that is read, as plain data of a caller.
-ghost use Rattle.std.specs.Prelude.{◌≡◌, ◌≤◌, length, take, IfSome, IfNone};
+ghost use Rattle.std.specs.Prelude.{◌≡◌, ◌≤◌, Some, length, take, IfSome, IfNone, MatchBool};
 ghost use Rattle.dnw_base.specs.Limits.{max_name};
 ghost use Rattle.dnw_base.specs.Names.{wire};
-ghost use Rattle.dnw_c_zone.specs.ZoneStates.{IsContextOf, LacksContext, has_number, in_room, labels_of_name, or_zero, owner_form, place_of_state, zone_state_of, time_of};
+ghost use Rattle.dnw_c_zone.specs.Inside.StateNames.{IsNoStateName, IsOwnerForm, LacksStateName};
+ghost use Rattle.dnw_c_zone.specs.ParseCalls.{IsOrigin};
+ghost use Rattle.dnw_c_zone.specs.ZoneStates.{IsContextOf, LacksContext, has_number, in_room, or_zero, owner_form, place_of_state, zone_state_of, time_of};
 
-use crate::parsing::origin_of;
+use crate::parsing::ref_of;
 use crate::zone_place::FilePlace;
 use dnw_base::dns_class::DNSClass;
 use dnw_base::limits::MAX_NAME;
@@ -104,19 +106,72 @@ pub(crate) fn context_of(alloc: Global, zone: &ZoneState) -> Option<Context>
     ensures some { IfSome result (IsContextOf zone.now) }
     ensures none { IfNone result (LacksContext zone.now) }
 {
-    let Ok(Some(origin)) = origin_of(alloc, front_of(&zone.origin, zone.origin_len)) else {
-        return None;
-    };
-    let Ok(owner) = origin_of(alloc, front_of(&zone.owner, zone.owner_len)) else {
-        return None;
-    };
-    Some(Context {
-        origin,
-        owner: form_of(alloc, &owner),
-        default_ttl: time_of(zone.has_default_ttl, zone.default_ttl),
-        last_ttl: time_of(zone.has_last_ttl, zone.last_ttl),
-        class: DNSClass::from(zone.record_class),
-    })
+    let mut context = Context::new(Name::root(alloc));
+    if fill_context(alloc, &mut context, zone) {
+        Some(context)
+    } else {
+        None
+    }
+}
+
+/// Changes a context into what the entries so far say by a state, so that it is not moved. Returns `false` if the state's origin or
+/// owner is no wire form; the context may be changed then.
+pub(crate) fn fill_context(alloc: Global, context: &mut Context, zone: &ZoneState) -> bool
+    ensures { MatchBool result (IsContextOf zone.now context.new) (LacksContext zone.now) }
+{
+    if !fill_origin(&mut context.origin, front_of(&zone.origin, zone.origin_len)) {
+        return false;
+    }
+    let owner = front_of(&zone.owner, zone.owner_len);
+    if !fill_owner(alloc, &mut context.owner, owner) {
+        return false;
+    }
+    context.default_ttl = time_of(zone.has_default_ttl, zone.default_ttl);
+    context.last_ttl = time_of(zone.has_last_ttl, zone.last_ttl);
+    context.class = DNSClass::from(zone.record_class);
+    true
+}
+
+/// Changes a name into that of which this is the wire form. Returns `false` if it is the wire form of none.
+fn fill_origin(name: &mut Name, form: &[u8]) -> bool
+    ensures { MatchBool result (IsOrigin form.now (Some name.new)) (LacksStateName form.now) }
+{
+    if form.is_empty() {
+        return false;
+    }
+    match ref_of(form) {
+        Ok(found) => {
+            found.clone_into(name);
+            true
+        }
+        Err(_) => false,
+    }
+}
+
+/// Changes an owner into the labels of the name of which this is the wire form, or into none for no octets. Returns `false` if it is
+/// the wire form of none.
+fn fill_owner(alloc: Global, owner: &mut Option<WireForm>, form: &[u8]) -> bool
+    ensures { MatchBool result (IsOwnerForm form.now owner.new) (IsNoStateName form.now) }
+{
+    if form.is_empty() {
+        *owner = None;
+        return true;
+    }
+    match ref_of(form) {
+        Ok(found) => {
+            let mut room = [0; MAX_NAME];
+            *owner = Some(form_of(alloc, found.wire_labels(&mut room)));
+            true
+        }
+        Err(_) => false,
+    }
+}
+
+/// Returns the wire form of labels, as an owner.
+fn form_of(alloc: Global, labels: WireLabels<'_>) -> WireForm
+    ensures { result ≡ labels.entry }
+{
+    WireForm::from_octets(alloc, labels.as_wire())
 }
 
 /// Returns the wire form of the origin.
@@ -198,14 +253,4 @@ fn time_of(flag: u8, number: u32) -> Option<u32>
     ensures { result ≡ time_of flag number }
 {
     if flag == 0 { None } else { Some(number) }
-}
-
-/// Returns the wire form of a name.
-fn form_of(alloc: Global, name: &Option<Name>) -> Option<WireForm>
-    ensures { result ≡ labels_of_name name.now }
-{
-    match name {
-        Some(name) => Some(WireForm::from_octets(alloc, name.wire_labels().as_wire())),
-        None => None,
-    }
 }

@@ -54,9 +54,10 @@ pub fn append_name(
     Ok(true)
 }
 
-/// Reads the name that a word gives into a form without labels. Returns `false` if it gives none.
+/// Reads the name that a word gives into a form without labels, as `read_name` returns it. Returns `false` if it gives none; some labels
+/// may be there then.
 #[tactic(auto, using(crate::proofs::NamesRead::is_named, crate::proofs::NamesRead::is_relative, crate::proofs::NamesRead::is_none))]
-fn fill_name(form: &mut WireForm, text: &[u8], origin: Option<&Name>) -> bool
+pub fn fill_name(form: &mut WireForm, text: &[u8], origin: Option<&Name>) -> bool
     requires { form.old ≡ [] }
     ensures { MatchBool result (named_at (option_copied origin.entry) text.now ≡ Some form.new) (named_at (option_copied origin.entry) text.now ≡ None) }
 {

@@ -9,7 +9,7 @@ ghost use Rattle.dnw_zone_data.specs.NumberForms.{ends_with_digit, first_form, i
 use dnw_base::record_type::RecordType;
 use dnw_zone_lexer::ttl::ttl_seconds;
 use dnw_zone_values::mnemonic::{algorithm_named, begins_with_digit, certificate_type_named};
-use dnw_zone_values::number::parse_up_to;
+use dnw_zone_values::number::number_up_to;
 
 /// How a number is written. Each is printed in decimal.
 #[derive(Clone, Copy, Debug, PartialEq, Eq)]
@@ -118,10 +118,8 @@ fn decimal_in(text: &str, max: u32) -> Option<u32>
     ensures is { MatchOption result ((n : ℕ) → ¬ (IsNumberText max text.now n)) (IsNumberText max text.now) }
     ensures few { IfSome result (λ n. n ≤ max) }
 {
-    match parse_up_to(text, max.into()) {
-        Ok(number) => Some(number as u32),
-        Err(_) => None,
-    }
+    let number = number_up_to(text.as_bytes(), max.into())?;
+    Some(number as u32)
 }
 
 /// Returns the period of at most `max` seconds that a text is.

@@ -1,5 +1,5 @@
 //! How a text is split into words.
-ghost use Rattle.std.specs.Prelude.{◌≡◌, ◌≤◌, ◌+◌, length, false, IfOk};
+ghost use Rattle.std.specs.Prelude.{◌≡◌, ◌≤◌, ◌+◌, ◌-◌, length, false, IfOk};
 ghost use Rattle.std.specs.List.{filter, list_all};
 ghost use Rattle.dnw_zone_data.specs.Inside.WordParts.{is_word_part};
 ghost use Rattle.dnw_zone_data.specs.Words.{after_param, after_spaces, after_word, begins_with_quote, is_asterisk, is_word_end, is_no_space, is_space, param_len, param_word, plain_len, quoted_len, word, word_len};
@@ -115,7 +115,7 @@ fn plain_len(text: &[u8]) -> usize
     ensures is { result ≡ plain_len false text.now }
     ensures within { result ≤ length text.now }
 {
-    let mut left = text;
+    let mut left = after_fours(text);
     while let Some((first, rest)) = left.split_first() {
         if is_word_part(*first) {
             left = rest;
@@ -129,6 +129,22 @@ fn plain_len(text: &[u8]) -> usize
         }
     }
     text.len()
+}
+
+/// Returns what is left of a word without quotes after characters that are a part of it and nothing more, four at a time.
+#[inline(always)]
+fn after_fours(text: &[u8]) -> &[u8]
+    ensures within { length result.now ≤ length text.now }
+    ensures left { (length text.now - length result.now) + plain_len false result.now ≡ plain_len false text.now }
+{
+    let mut left = text;
+    'fours: while let [a, b, c, d, rest @ ..] = left {
+        if !is_word_part(*a) || !is_word_part(*b) || !is_word_part(*c) || !is_word_part(*d) {
+            break;
+        }
+        left = rest;
+    }
+    left
 }
 
 /// Returns `true` if a character outside of quotes is a part of a word and nothing more. A table takes one comparison.

@@ -1,3 +1,4 @@
+mod PlaceLines
 pub mod Decided
 pub mod OneMore
 pub mod Kept

@@ -21,7 +21,7 @@ use Rattle.dnw_zone_file.specs.declared.entry.LineKind.{LineKind}
 use Rattle.dnw_zone_file.specs.declared.entry.LineKind.TheVariants.{Blank, OwnerBefore, Dollar, OwnerFirst}
 use Rattle.dnw_zone_file.specs.declared.entry.ZoneRecord.{ZoneRecord}
 use Rattle.dnw_zone_file.specs.declared.error.ZoneError.{ZoneError}
-use Rattle.dnw_zone_file.specs.declared.error.ZoneError.TheVariants.{Wrong, Data}
+use Rattle.dnw_zone_file.specs.declared.error.ZoneError.TheVariants.{Wrong, Data, Memory}
 use Rattle.dnw_zone_file.specs.declared.error.ZoneRule.{ZoneRule}
 use Rattle.dnw_zone_file.specs.declared.error.ZoneRule.TheVariants.{NoOwner, BadOwner, NoTimeToLive, UnknownDirective, Generate, NoName, NoTime, NoFile, WordsLeft}
 use Rattle.dnw_zone_file.specs.declared.head.Head.{Head}
@@ -98,16 +98,17 @@ FailsTtl len left error =
 abbrev pub IsIncludeOrigin : NameValue → List ℕ → NameValue → Type 0
 IsIncludeOrigin origin left name = (IsEnd left × (name ≡ origin)) ⊎ ((¬ (IsEnd left)) × IsOnlyName origin left name)
 
--- A file is left, and maybe an origin.
+-- A file is left, and maybe an origin. Or not, or memory ran out.
 abbrev pub IsInclude : NameValue → ℕ → List ℕ → Include → Type 0
 IsInclude origin len left include =
     (next_word left ≢ []) × (include.file ≡ len - length (after_spaces left)) × (include.file_len ≡ length (next_word left))
-    × IsIncludeOrigin origin (after_next_word left) include.origin
+    × IsIncludeOrigin origin (after_next_word left) include.origin.value
 
 abbrev pub FailsInclude : NameValue → ℕ → List ℕ → ZoneError → Type 0
 FailsInclude origin len left error =
     ((next_word left ≡ []) × (error ≡ wrong_at len left NoFile))
     ⊎ ((next_word left ≢ []) × (¬ (IsEnd (after_next_word left))) × FailsOnlyName origin len (after_next_word left) error)
+    ⊎ ((next_word left ≢ []) × (name : NameValue) × IsIncludeOrigin origin (after_next_word left) name × (error ≡ Memory))
 
 -- what an entry is by its first word
 abbrev pub IsDirectiveEntry : Context → List ℕ → ℕ → List ℕ → Entry → Context → Type 0

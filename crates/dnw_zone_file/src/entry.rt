@@ -1,8 +1,8 @@
 //! Single entries of zone files.
-ghost use Rattle.std.specs.Prelude.{◌≡◌, ◌≢◌, ◌≤◌, [], Some, None, length, IfOk, IfErr, MatchOption};
+ghost use Rattle.std.specs.Prelude.{◌≡◌, ◌≢◌, ◌≤◌, ℕ, List, [], Some, None, length, IfOk, IfErr, MatchBool, MatchOption};
 ghost use Rattle.dnw_base.specs.Names.{NameValue};
 ghost use Rattle.dnw_zone_data.specs.Words.{after_spaces};
-ghost use Rattle.dnw_zone_file.specs.declared.error.ZoneRule.TheVariants.{NoTimeToLive};
+ghost use Rattle.dnw_zone_file.specs.declared.error.ZoneRule.TheVariants.{BadOwner, NoOwner, NoTimeToLive};
 ghost use Rattle.dnw_zone_file.specs.Heads.{IsZoneHead, wrong_at};
 ghost use Rattle.dnw_zone_file.specs.Contexts.{class_after, ttl_after, with_record};
 ghost use Rattle.dnw_zone_file.specs.Entries.{FailsData, FailsDirectiveEntry, FailsEntry, FailsEntryBy, FailsInclude, FailsOnlyName, FailsOwned, FailsZoneRecord, FailsTtl, IsDirectiveEntry, IsEntry, IsEntryBy, IsInclude, IsIncludeOrigin, IsNameWord, IsOnlyName, IsOnlyTtl, IsOwned, IsRecordData, IsZoneRecord, begins_with, line_kind, owner_at};
@@ -16,7 +16,7 @@ use dnw_base::dns_class::DNSClass;
 use dnw_base::record_type::RecordType;
 use dnw_name::name::Name;
 use dnw_name_form::form::WireForm;
-use dnw_zone_data::name::read_name;
+use dnw_zone_data::name::fill_name;
 use dnw_zone_data::words::{after_spaces, split_word};
 use dnw_zone_record::record_line::{data_of, next_word, ttl_of};
 use std::alloc::Global;
@@ -42,8 +42,8 @@ pub struct Include {
     pub file: usize,
     /// The number of octets of the file as it stands there.
     pub file_len: usize,
-    /// The origin of the file's entries.
-    pub origin: Name,
+    /// The origin of the file's entries. It is boxed, so that other entries are small.
+    pub origin: Box<Name>,
 }
 
 /// What an entry is.
@@ -111,34 +111,41 @@ fn entry_by(
 {
     match kind {
         LineKind::Blank => Ok(Entry::Nothing),
-        LineKind::OwnerBefore => {
-            let owner = owner_before(context);
-            owned(alloc, context, owner, ZoneRule::NoOwner, line, line)
-        }
+        LineKind::OwnerBefore => owned_before(alloc, context, line),
         LineKind::Dollar => directive_entry(alloc, context, word, line.len(), rest),
-        LineKind::OwnerFirst => {
-            let owner = owner_at(alloc, &context.origin, word);
-            owned(alloc, context, owner, ZoneRule::BadOwner, line, rest)
-        }
+        LineKind::OwnerFirst => owned_first(alloc, context, line, word, rest),
     }
 }
 
-/// Returns the record of an owner, of which the text has the rest, or that the line breaks this rule, without an owner.
-fn owned(
+/// Returns the record of the last owner, of which this is the line, or that there is none.
+fn owned_before(alloc: Global, context: &mut Context, line: &[u8]) -> Result<Entry, ZoneError>
+    ensures ok { IfOk result (λ entry. IsOwned context.old.owner context.old line.now entry context.new) }
+    ensures err { IfErr result (λ e. FailsOwned context.old.owner context.old line.now line.now NoOwner e × (context.new ≡ context.old)) }
+{
+    match &context.owner {
+        Some(_) => record_of_last(alloc, context, line.len(), line),
+        None => Err(wrong_at(line.len(), line, ZoneRule::NoOwner)),
+    }
+}
+
+/// Returns the record of the owner that a word is, of which a line has the rest, or that the word is no owner. The owner is read beside
+/// the last one, which is kept if there is no record.
+fn owned_first(
     alloc: Global,
     context: &mut Context,
-    owner: Option<WireForm>,
-    rule: ZoneRule,
     line: &[u8],
-    left: &[u8],
+    word: &[u8],
+    rest: &[u8],
 ) -> Result<Entry, ZoneError>
-    requires { length left.now ≤ length line.now }
-    ensures ok { IfOk result (λ entry. IsOwned owner context.old left.now entry context.new) }
-    ensures err { IfErr result (λ e. FailsOwned owner context.old line.now left.now rule e × (context.new ≡ context.old)) }
+    requires { length rest.now ≤ length line.now }
+    ensures ok { IfOk result (λ entry. IsOwned (owner_at context.old.origin word.now) context.old rest.now entry context.new) }
+    ensures err { IfErr result (λ e. FailsOwned (owner_at context.old.origin word.now) context.old line.now rest.now BadOwner e × (context.new ≡ context.old)) }
 {
-    match owner {
-        Some(owner) => record_of(alloc, context, owner, line.len(), left),
-        None => Err(wrong_at(line.len(), line, rule)),
+    let mut owner = WireForm::new(alloc);
+    if read_owner(&mut owner, &context.origin, word) {
+        record_of(alloc, context, &owner, line.len(), rest)
+    } else {
+        Err(wrong_at(line.len(), line, ZoneRule::BadOwner))
     }
 }
 
@@ -162,26 +169,27 @@ pub(crate) fn owner_before(context: &Context) -> Option<WireForm>
     }
 }
 
-/// Returns the owner that a word is, if it is a name. A quoted string is none.
-fn owner_at(alloc: Global, origin: &Name, word: &[u8]) -> Option<WireForm>
-    ensures { result ≡ owner_at origin.now word.now }
+/// Reads the owner that a word is into a form without labels. Returns `false` if it is none. A quoted string is none.
+fn read_owner(form: &mut WireForm, origin: &Name, word: &[u8]) -> bool
+    requires { form.old ≡ [] }
+    ensures { MatchBool result (owner_at origin.now word.now ≡ Some form.new) (owner_at origin.now word.now ≡ None) }
 {
     if begins_with(word, b'"') {
-        return None;
+        return false;
     }
-    read_name(alloc, word, Some(origin))
+    fill_name(form, word, Some(origin))
 }
 
 /// Returns the record of an owner, of which the text has the rest, and which is what is left of an entry of this length.
 fn record_of(
     alloc: Global,
     context: &mut Context,
-    owner: WireForm,
+    owner: &WireForm,
     len: usize,
     left: &[u8],
 ) -> Result<Entry, ZoneError>
     requires { length left.now ≤ len }
-    ensures ok { IfOk result (λ entry. IsZoneRecord context.old owner left.now entry context.new) }
+    ensures ok { IfOk result (λ entry. IsZoneRecord context.old owner.now left.now entry context.new) }
     ensures err { IfErr result (λ e. FailsZoneRecord context.old len left.now e × (context.new ≡ context.old)) }
 {
     match record_data(alloc, context, len, left) {
@@ -193,11 +201,48 @@ fn record_of(
     }
 }
 
-/// Keeps what a record says for later ones.
-pub(crate) fn note(context: &mut Context, owner: WireForm, head: Head)
-    ensures { context.new ≡ with_record context.old owner head }
+/// Returns the record of the last owner, as `record_of` returns that of another. The owner is not copied.
+fn record_of_last(
+    alloc: Global,
+    context: &mut Context,
+    len: usize,
+    left: &[u8],
+) -> Result<Entry, ZoneError>
+    requires { length left.now ≤ len }
+    ensures ok { IfOk result (λ entry. (owner : List (List ℕ)) → context.old.owner ≡ Some owner → IsZoneRecord context.old owner left.now entry context.new) }
+    ensures err { IfErr result (λ e. FailsZoneRecord context.old len left.now e × (context.new ≡ context.old)) }
 {
-    context.owner = Some(owner);
+    match record_data(alloc, context, len, left) {
+        Ok((head, found)) => {
+            note_head(context, head);
+            Ok(Entry::Record(found))
+        }
+        Err(error) => Err(error),
+    }
+}
+
+/// Keeps what a record says for later ones.
+pub(crate) fn note(context: &mut Context, owner: &WireForm, head: Head)
+    ensures { context.new ≡ with_record context.old owner.now head }
+{
+    put_owner(&mut context.owner, owner);
+    note_head(context, head);
+}
+
+/// Keeps an owner in the place of the last one.
+fn put_owner(last: &mut Option<WireForm>, owner: &WireForm)
+    ensures { last.new ≡ Some owner.now }
+{
+    match last {
+        Some(form) => form.copy_octets(owner.labels().as_wire()),
+        None => *last = Some(owner.clone()),
+    }
+}
+
+/// Keeps what a record of the last owner says for later ones.
+fn note_head(context: &mut Context, head: Head)
+    ensures { (owner : List (List ℕ)) → context.old.owner ≡ Some owner → context.new ≡ with_record context.old owner head }
+{
     context.last_ttl = head.ttl.or(context.last_ttl);
     if let Some(class) = head.class {
         context.class = class;
@@ -403,13 +448,17 @@ fn include_of(alloc: Global, origin: &Name, len: usize, left: &[u8]) -> Result<I
     }
     let file = len - after_spaces(left).len();
     let file_len = word.len();
-    match include_origin(alloc, origin, len, rest) {
+    let name = match include_origin(alloc, origin, len, rest) {
+        Ok(name) => name,
+        Err(error) => return Err(error),
+    };
+    match Box::new(alloc, name) {
         Ok(origin) => Ok(Include {
             file,
             file_len,
             origin,
         }),
-        Err(error) => Err(error),
+        Err(_) => Err(ZoneError::Memory),
     }
 }
 

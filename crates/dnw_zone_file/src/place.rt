@@ -1,5 +1,6 @@
 //! Lines and columns of texts.
-ghost use Rattle.std.specs.Prelude.{◌≡◌, take};
+ghost use Rattle.std.specs.Prelude.{◌≡◌, ◌<◌, length, take, IfSome, MatchOption};
+ghost use Rattle.dnw_zone_file.specs.Inside.PlaceLines.{BeginsWithLine, IsInLine};
 ghost use Rattle.dnw_zone_file.specs.Places.{place_from};
 
 /// A place in a text, as editors count it, from 0.
@@ -23,19 +24,37 @@ fn place_after(front: &[u8]) -> TextPlace
     ensures { result ≡ place_from (record { line = 0; column = 0 }) front.now }
 {
     let mut line = 0;
-    let mut begins = front;
     let mut left = front;
-    while let Some((c, rest)) = left.split_first() {
-        if *c == b'\n' {
-            line += 1;
-            begins = rest;
-        }
+    while let Some(rest) = after_line(left) {
+        line += 1;
         left = rest;
     }
     TextPlace {
         line,
-        column: begins.len(),
+        column: left.len(),
     }
+}
+
+/// Returns what is after the first line feed, if there is one.
+fn after_line(text: &[u8]) -> Option<&[u8]>
+    ensures is { MatchOption result (IsInLine text.now) (λ rest. BeginsWithLine text.now rest.now) }
+    ensures shorter { IfSome result (λ rest. length rest.now < length text.now) }
+{
+    let mut left = text;
+    // Four octets a round take less than one.
+    'fours: while let [a, b, c, d, rest @ ..] = left {
+        if *a == b'\n' || *b == b'\n' || *c == b'\n' || *d == b'\n' {
+            break;
+        }
+        left = rest;
+    }
+    while let Some((c, rest)) = left.split_first() {
+        if *c == b'\n' {
+            return Some(rest);
+        }
+        left = rest;
+    }
+    None
 }
 
 /// Returns the octets before an offset.

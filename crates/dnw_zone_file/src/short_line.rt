@@ -39,7 +39,7 @@ pub fn append_short_record(
         class: Some(record.class()),
         record_type: record.record_type(),
     };
-    note(context, form_of(alloc, &owner), head);
+    note(context, &form_of(alloc, &owner), head);
     Ok(())
 }
 

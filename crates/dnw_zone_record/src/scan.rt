@@ -146,25 +146,53 @@ fn split_kept(place: Place, text: &[u8]) -> (&[u8], &[u8])
     ensures others { result.1.now ≡ drop (kept_len place text.now) text.now }
     ensures whole { length result.0.now + length result.1.now ≡ length text.now }
 {
+    let others = match place {
+        Place::Words => after_plain(text),
+        Place::Quoted => after_quoted(text),
+        _ => text,
+    };
+    text.split_at(text.len() - others.len())
+}
+
+/// Returns what is left of a text after the octets that it begins with and that are kept outside of quotes.
+#[inline(always)]
+fn after_plain(text: &[u8]) -> &[u8]
+    ensures { kept_len Place.Words text.now + length result.now ≡ length text.now }
+{
     let mut left = text;
-    while let Some((first, rest)) = left.split_first() {
-        if !is_kept(place, *first) {
+    // Four octets a round take less than one.
+    'fours: while let [a, b, c, d, rest @ ..] = left {
+        if !is_plain_octet(*a)
+            || !is_plain_octet(*b)
+            || !is_plain_octet(*c)
+            || !is_plain_octet(*d)
+        {
             break;
         }
         left = rest;
     }
-    text.split_at(text.len() - left.len())
+    while let Some((first, rest)) = left.split_first() {
+        if !is_plain_octet(*first) {
+            break;
+        }
+        left = rest;
+    }
+    left
 }
 
-/// Returns `true` if an octet at a place is kept, and leaves the next one there.
-fn is_kept(place: Place, c: u8) -> bool
-    ensures { result ≡ is_kept place c }
+/// Returns what is left of a text after the octets that it begins with and that are kept in quotes.
+#[inline(always)]
+fn after_quoted(text: &[u8]) -> &[u8]
+    ensures { kept_len Place.Quoted text.now + length result.now ≡ length text.now }
 {
-    match place {
-        Place::Words => is_plain_octet(c),
-        Place::Quoted => is_quoted(c),
-        _ => false,
+    let mut left = text;
+    while let Some((first, rest)) = left.split_first() {
+        if !is_quoted(*first) {
+            break;
+        }
+        left = rest;
     }
+    left
 }
 
 /// Returns how the line ends if the text ends here.

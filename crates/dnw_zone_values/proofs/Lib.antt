@@ -1,3 +1,4 @@
+mod Digits
 pub mod Steps
 pub mod Ascending
 pub mod Sorting
