@@ -113,8 +113,7 @@ pub begins_split : (b x : List ℕ) (cs ds : List Chunk) → Begins b (cs ++ ds)
 begins_split b x [] ds h = (b, refl, ([], sym (append-nil b)), h)
 begins_split b x (c ∷ cs) ds (e, may, h) =
     let (y, size, first, more) = begins_split (b ++ e) x cs ds h in
-    let longer : length (b ++ e) ≡ length b + length (bytes_of c) = omega (arith, length-append b e, length_may_be c e may) in
-    (y, size ∙ ap (λ n. upto n cs) longer, (e, may, first), more)
+    (y, cc (size, length-append b e, length_may_be c e may), (e, may, first), more)
 
 -- Other chunks may follow the first ones.
 pub begins_others : (b x : List ℕ) (cs ds es : List Chunk) → ((y : List ℕ) → Begins y ds x → Begins y es x) → Begins b (cs ++ ds) x → Begins b (cs ++ es) x

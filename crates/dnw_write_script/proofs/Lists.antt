@@ -1,5 +1,5 @@
 -- Parts and items that are written in turn, as the code goes over them.
-use Rattle.std.proofs.Common.{◌≡◌, ℕ, ◌+◌, ◌<◌, suc, List, [], ◌∷◌, ◌++◌, length, get_or, take, drop, Some, None, Ok, Err, inl, inr, refl, sym, subst, map, Bor, Iter, ap, ◌∙◌, arith}
+use Rattle.std.proofs.Common.{◌≡◌, ℕ, ◌+◌, ◌<◌, suc, List, [], ◌∷◌, ◌++◌, length, get_or, take, drop, Some, None, Ok, Err, inl, inr, refl, sym, map, Bor, Iter, ap, ◌∙◌, arith}
 use Rattle.std.proofs.lemmas.List.{take_more, length-append, length-map, append-nil, nil_from_length}
 use Rattle.std.proofs.Math.Seq.{split_at}
 use Rattle.dnw_base.specs.declared.error.ProtoError.{ProtoError}
@@ -8,7 +8,7 @@ use Rattle.dnw_write_script.specs.declared.script.Part.{Part}
 use Rattle.dnw_write_script.specs.Script.{EmitsPart, EmitsParts, EmitsScriptItem}
 use Rattle.std.specs.Iterator.{Yields}
 use Rattle.std.specs.Slice.Iter.{iter_rest, iter_steps}
-use Rattle.dnw_write.specs.Emitting.{Outcome, Emits, EmitsItem, EmitsItems, InTurn}
+use Rattle.dnw_write.specs.Emitting.{Outcome, Emits, EmitsItems, InTurn}
 use Rattle.dnw_write_script.specs.declared.script.Item.{Item}
 use Rattle.dnw_write_script.specs.declared.script.Reply.TheVariants.{Items}
 use Rattle.dnw_write_script.specs.Runs.{RunsItems}
@@ -26,15 +26,13 @@ parts_follow (p ∷ parts) others v m w (Err error) (u, one, all) more = inr (u,
 pub part_written : (v m w : Encoder) (parts : List Part) (i : ℕ) (part : Part) → i < length parts → part ≡ get_or parts i part
     → EmitsParts (take i parts) v (Ok tt) m → EmitsPart part m (Ok tt) w → EmitsParts (take (i + 1) parts) v (Ok tt) w
 part_written v m w parts i part below is all one =
-    subst (λ ps. EmitsParts ps v (Ok tt) w) (sym (take_more parts i part below))
-    (parts_follow (take i parts) (get_or parts i part ∷ []) v m w (Ok tt) all (w, subst (λ p. EmitsPart p m (Ok tt) w) is one, refl))
+    rw (take_more parts i part below, ← is) (parts_follow (take i parts) (part ∷ []) v m w (Ok tt) all (w, one, refl))
 
 -- or refused
 pub part_refused : (v m w : Encoder) (parts : List Part) (i : ℕ) (part : Part) (error : ProtoError) → i < length parts → part ≡ get_or parts i part
     → EmitsParts (take i parts) v (Ok tt) m → EmitsPart part m (Err error) w → EmitsParts parts v (Err error) w
 part_refused v m w parts i part error below is all one =
-    subst (λ ps. EmitsParts ps v (Err error) w) (sym (split_at parts i part below))
-    (parts_follow (take i parts) (get_or parts i part ∷ drop (suc i) parts) v m w (Err error) all (inl (subst (λ p. EmitsPart p m (Err error) w) is one)))
+    rw (split_at parts i part below, ← is) (parts_follow (take i parts) (part ∷ drop (suc i) parts) v m w (Err error) all (inl one))
 
 -- ---- items
 
@@ -60,8 +58,8 @@ length_owned xs = length-map xs (λ (x : Bor Item). x.now)
 pub all_written : (v w : Encoder) (items : List Item) (s t : Iter Item) (count : ℕ) → iter_rest s ≡ items
     → EmitsItems EmitsLent iter_steps s v (Ok count) w t → RunsItems v items (Items count None (length w.bytes)) w
 all_written v w items s t count all (xs, (m, ys, (none, _)), turn, counted) =
-    let same : items ≡ owned xs = sym all ∙ (yielded s m xs ys ∙ (ap (λ (rest : List Item). owned xs ++ rest) (nil_from_length (iter_rest m) none) ∙ append-nil (owned xs))) in
-    (subst (λ is. InTurn EmitsScriptItem v is w) (sym same) (in_turn v w xs turn), counted ∙ (sym (length_owned xs) ∙ ap length (sym same)), refl)
+    let same : items ≡ owned xs = cc (all, yielded s m xs ys, nil_from_length (iter_rest m) none, append-nil (owned xs)) in
+    rw same (in_turn v w xs turn, counted ∙ sym (length_owned xs), refl)
 
 -- how many were written before the refused one
 pub written_before : (v w : Encoder) (items : List Item) (s t : Iter Item) (error : ProtoError) → iter_rest s ≡ items
@@ -74,6 +72,5 @@ pub some_written : (v w : Encoder) (items : List Item) (s t : Iter Item) (error 
     → (h : EmitsItems EmitsLent iter_steps s v (Err error) w t) → count ≡ length h.0
     → RunsItems v items (Items count (Some error) (length w.bytes)) w
 some_written v w items s t error count all (xs, x, m, (n, ys, step), turn, one) counted =
-    let split : items ≡ owned xs ++ x.now ∷ iter_rest t = sym all ∙ (yielded s n xs ys ∙ ap (λ (rest : List Item). owned xs ++ rest) step) in
-    let last = subst (λ k. EmitsItem EmitsScriptItem x.now k m (Err error) w) (sym counted) one in
-    (owned xs, x.now, iter_rest t, m, split, counted ∙ sym (length_owned xs), in_turn v m xs turn, last, refl)
+    let split : items ≡ owned xs ++ x.now ∷ iter_rest t = cc (yielded s n xs ys) in
+    (owned xs, x.now, iter_rest t, m, split, counted ∙ sym (length_owned xs), in_turn v m xs turn, rw counted one, refl)

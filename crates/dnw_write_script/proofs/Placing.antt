@@ -1,5 +1,5 @@
 -- The placeholders that a run keeps are those that its account has.
-use Rattle.std.proofs.Common.{◌≡◌, ℕ, zero, suc, ◌+◌, true, List, [], ◌∷◌, ◌++◌, length, get_or, set, Option, Some, None, refl, sym, ap, ◌∙◌, subst, arith}
+use Rattle.std.proofs.Common.{◌≡◌, ℕ, zero, suc, ◌+◌, true, List, [], ◌∷◌, ◌++◌, length, get_or, set, Option, Some, None, refl, sym, ap, ◌∙◌, arith}
 use Rattle.std.specs.List.{AllByRecursion}
 use Rattle.std.proofs.lemmas.List.{set-get_or}
 use Rattle.dnw_write.specs.Encoder.{Encoder, TakesRoom, reserved}
@@ -50,9 +50,8 @@ tracks_push places slots p e is t = absurd t
 pub tracks_reserve : (places new : List (Option ℕ)) (a : Account) (v w : Encoder) (reply : Reply) → v.offset ≡ length v.bytes → Tracks places a.places
     → KeepsPlace places v.offset reply new → GivesReply (TakesRoom v 2 (reserved v 2)) reply w → Tracks new (after_action a reserve reply).places
 tracks_reserve places new a v w (Done len) at_end t is h =
-    let end = h.1 ∙ (ap (λ (x : Encoder). length x.bytes) h.0.1 ∙ sym (places_stay_bounded v 2 (omega (arith, at_end)) h.0.0).1) in
-    subst (λ ps. Tracks ps (after_action a reserve (Done len)).places) (sym is) (tracks_push places a.places v.offset len end t)
-tracks_reserve places new a v w reply at_end t is h = subst (λ ps. Tracks ps a.places) (sym is) t
+    rw is (tracks_push places a.places v.offset len (omega (arith, h.1, ap (λ (x : Encoder). length x.bytes) h.0.1, (places_stay_bounded v 2 (omega (arith, at_end)) h.0.0).1)) t)
+tracks_reserve places new a v w reply at_end t is h = rw is t
 
 pub holds_at : (v : Encoder) (n : ℕ) (places : List (Option ℕ)) → AllByRecursion (HoldsPlace v) places → HoldsPlace v (get_or places n None)
 holds_at v n [] all = tt

@@ -8,13 +8,11 @@ use Rattle.std.specs.Prelude.{IfErr, IfOk, OnErr}
 use Rattle.std.specs.declared.vec.Vec.{Vec}
 use Rattle.dnw_base.specs.declared.error.ProtoError.{ProtoError}
 use Rattle.dnw_write.specs.Encoder.{Encoder}
-use Rattle.dnw_write.specs.EmittedName.{so_far}
 use Rattle.dnw_write.specs.EmittingLaws.{take_all_lem}
 use Rattle.dnw_record.specs.declared.wire_record.WireRecord.{WireRecord}
 use Rattle.dnw_record.specs.WrittenRecords.{EmitsRecord}
 use Rattle.dnw_record.specs.Parts.{WirePart, name_part}
 use Rattle.dnw_record.proofs.Bounded.{part_stays_bounded, parts_stay_bounded}
-use Rattle.dnw_base.specs.Limits.{max_message}
 use Rattle.dnw_write_script.specs.declared.script.Reply.{Reply}
 use Rattle.dnw_write_script.specs.Script.{Action, action, item_parts, set_max, wire_part, write, write_items}
 use Rattle.dnw_write_script.specs.Pieces.{Account, PiecesLie, after_action, opening, account_from, Slot}
@@ -22,7 +20,7 @@ use Rattle.dnw_write_script.specs.Replies.{RepliesTo, ReplyTo, ReplyToPart}
 use Rattle.dnw_write_script.specs.Runs.{IsUseful, Runs, beginning, RunsStep}
 use Rattle.dnw_write_script.specs.ScriptLaws.{RunsFinish, ItemsOfScriptsStayBounded, PartsOfScriptsStayBounded, RunsStayBounded}
 use Rattle.dnw_write_script.proofs.Chunks.{laid, piece_of, spells, upto, ends_most}
-use Rattle.dnw_write_script.proofs.Standing.{AreUsable, holds_now, sound_upto}
+use Rattle.dnw_write_script.proofs.Standing.{holds_now, sound_upto}
 use Rattle.dnw_write_script.proofs.Stepping.{Goes, Good, record_undone, step, goes, good_beginning}
 use Rattle.dnw_write_script.specs.declared.script.Step.{Step}
 use Rattle.dnw_write_script.specs.Inside.Running.{HoldsPlace, Tracks, RunsTo}
@@ -61,8 +59,7 @@ module _ (old : List ℕ) (candidates names : ℕ) (actions : List Action) (repl
 
   pub runs_useful : AllByRecursion (IsUseful w) w.candidates
   runs_useful =
-      let now : so_far w ≡ w.bytes = take_all_lem w.offset w.bytes all.1.good.sound.end in
-      recursion_from_All (IsUseful w) w.candidates (subst (λ x. AreUsable x w.candidates) (sym now) (holds_now old all.1.chunks w all.1.good.sound).1)
+      recursion_from_All (IsUseful w) w.candidates (rw (take_all_lem w.offset w.bytes all.1.good.sound.end) (holds_now old all.1.chunks w all.1.good.sound).1)
 
 -- The pieces of the first steps are there in the finished bytes.
 spells_first : (old : List ℕ) (candidates names : ℕ) (first rest : List Action) (given others : List Reply) (w : Encoder) → length first ≡ length given
@@ -77,12 +74,11 @@ spells_first old candidates names first rest given others w same h =
     let two = (goes old one.chunks b m w rest others one.good behind).1 in
     let s = two.good.sound in
     let n = length one.chunks in
-    let count : length b.pieces ≡ n = ap length one.good.pieces_are ∙ length-map one.chunks piece_of in
-    let stand = (holds_now old two.chunks w s).0 in
+    let count : length b.pieces ≡ n = cc (one.good.pieces_are, length-map one.chunks piece_of) in
     let end : upto (length old) (take n two.chunks) ≡ b.len =
-    two.same n (omega arith) ∙ (ap (upto (length old)) (take_all n one.chunks (omega arith)) ∙ (sym (sound_upto old one.chunks m one.good.sound) ∙ sym one.good.len_is)) in
+    cc (two.same n (omega arith), take_all n one.chunks (omega arith), sound_upto old one.chunks m one.good.sound, one.good.len_is) in
     rw (count, account, two.good.pieces_are) (subst (PiecesLie w.bytes (take n (map piece_of two.chunks)) (length old)) end
-    (spells w.bytes old (length old) n two.chunks refl s.bytes stand))
+    (spells w.bytes old (length old) n two.chunks refl s.bytes (holds_now old two.chunks w s).0))
 
 pub runs_finish : RunsFinish
 runs_finish old candidates names actions replies w h =
@@ -127,8 +123,7 @@ steps_len a actions replies h = absurd h
 
 pub runs_stay_bounded : RunsStayBounded
 runs_stay_bounded old candidates names actions replies w h =
-    let most = steps_len (opening (length old)) actions replies (runs_reply old candidates names actions replies w h) in
-    omega (arith, most, (runs_finish old candidates names actions replies w h).ends)
+    omega (arith, steps_len (opening (length old)) actions replies (runs_reply old candidates names actions replies w h), (runs_finish old candidates names actions replies w h).ends)
 
 pub parts_of_scripts_stay_bounded : PartsOfScriptsStayBounded
 parts_of_scripts_stay_bounded part v w e h = (part_stays_bounded (wire_part v.encoding part) v w (omega (arith, e)) (as_wire_part part v w (Ok tt) e h)).0
@@ -153,8 +148,7 @@ ran old candidates names steps (Ok x) new (w, runs, bytes) err same =
       same = tt;
     }
 ran old candidates names steps (Err e) new run err same =
-    let most = largest_max max_message (map action steps) in
-    record { replies = tt; finished = tt; shortest = tt; runs = tt; bounded = omega (arith, ap length same, le-max_left (length old) most); err = err; same = same }
+    record { replies = tt; finished = tt; shortest = tt; runs = tt; bounded = omega (arith, ap length same); err = err; same = same }
 
 -- ---- one step more, after the others
 
@@ -202,6 +196,5 @@ has_run_more {v} {m} {w} steps {i} {step} {replies} {places} {new} reply below i
     let a = account_from start actions replies in
     let (more, account) = runs_push start v actions replies m (action step) reply w h.runs (runs a h.tracks) in
     let pushed : HasRun v (actions ++ action step ∷ []) (replies ++ reply ∷ []) w new =
-    record { runs = more; tracks = subst (λ b. Tracks new b.places) (sym account) (tracks a h.tracks) } in
-    let all : take (i + 1) steps ≡ take i steps ++ step ∷ [] = take_more steps i step below ∙ ap (λ (s : Step). take i steps ++ s ∷ []) (sym is) in
-    subst (λ xs. HasRun v xs (replies ++ reply ∷ []) w new) (sym (ap (map action) all ∙ map-append action (take i steps) (step ∷ []))) pushed
+    record { runs = more; tracks = rw account (tracks a h.tracks) } in
+    rw (take_more steps i step below, ← is, map-append) pushed

@@ -255,7 +255,7 @@ names_are_shortest old candidates names actions replies w h first name rest give
     runs_come old (opening (length old)) v first (write (Name name) ∷ rest) given (Done len ∷ others) w _ _ start are e (rw (split, told_is) at h) in
     let a = account_from (opening (length old)) first given in
     let g = k.good in
-    let mode : is_compressed m.encoding ≡ true = ap is_compressed (sym g.agree.mode) ∙ compressed in
+    let mode : is_compressed m.encoding ≡ true = cc (g.agree.mode, compressed) in
     let counts : compresses m ≡ true = compresses_within m mode (omega (arith, k.names)) in
     let s = shortest old a m (length name.labels) 1 k near (in_mode m.encoding name.labels) one.0.choice x counts one.0.are_labels one.0.chooses one.0.written_as.1 in
     let ends : x.offset ≡ len = (frame_name name m (Ok tt) x g.sound.end one.0).ends ∙ sym one.1 in

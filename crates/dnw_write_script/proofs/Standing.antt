@@ -164,7 +164,7 @@ lays_sized : {v u w : Encoder} {P : List ℕ → Type 0} → v.offset ≡ length
     → Lays v w (λ x. BytesStand x (to_be_bytes w16 (w.offset - (v.offset + 2))) v.offset (v.offset + 2) × P x)
 lays_sized {v} {u} {w} e one is =
     let two = to_be_bytes w16 (u.offset - (v.offset + 2)) in
-    let whole : u.bytes ≡ v.bytes ++ (to_be_bytes w16 0 ++ one.d) = one.bytes ∙ rw (reserved_bytes v e) (append_assoc v.bytes (to_be_bytes w16 0) one.d) in
+    let whole : u.bytes ≡ v.bytes ++ (to_be_bytes w16 0 ++ one.d) = cc (one.bytes, reserved_bytes v e, append_assoc v.bytes (to_be_bytes w16 0) one.d) in
     rw is (record {
       d = two ++ one.d;
       bytes = filled_bytes u v.bytes (to_be_bytes w16 0) two one.d v.offset whole (sym e) refl;
@@ -196,8 +196,6 @@ lays_record r v w e (a, owner, (d, fixed, (room, u, one, made))) fit few =
     let g = frame a (wire_fixed r) (Ok tt) d f.ends fixed in
     let last = lays_data r.rdata (reserved d 2) u (frame_reserved d g.ends).ends one in
     let all = lays_then (lays_name r.owner v a e owner) (lays_then (lays_bytes a d (wire_fixed r) f.ends fixed) (lays_sized g.ends last made)) in
-    let mode = g.encoding ∙ f.encoding in
-    let canonical = g.canonical ∙ f.canonical in
     let after : d.offset + 2 ≡ a.offset + 10 = omega (arith, ap (λ (x : Encoder). x.offset) fixed.1) in
     let same : u.offset ≡ w.offset = sym (ap (λ (x : Encoder). x.offset) made) in
     lays_map (λ x (name, (eight, (len, rdata))). record {
@@ -205,7 +203,7 @@ lays_record r v w e (a, owner, (d, fixed, (room, u, one, made))) fit few =
       owner = name;
       fields = bytes_join x (wire_fixed r) _ a.offset d.offset (a.offset + 10) eight
           (subst (λ n. BytesStand x (to_be_bytes w16 (w.offset - n)) d.offset n) after len);
-      rdata = rw (after, mode, canonical, same) at rdata;
+      rdata = rw (after, g.encoding, f.encoding, g.canonical, f.canonical, same) at rdata;
       few = few;
       fit = fit;
     }) all

@@ -31,8 +31,8 @@ use Rattle.dnw_write_script.specs.Script.{Action, EmitsPart, EmitsScriptItem, wr
 use Rattle.dnw_write_script.specs.Pieces.{Account, Piece, Slot, place_piece, record_piece, after_action, filled_in, spent, wire_piece, with_pieces, opening, account_from}
 use Rattle.dnw_write_script.specs.Replies.{ItemFails, ReplyTo, ReplyToFill, ReplyToRecord, open_place, ReplyToBytes, ReplyToName, ReplyToPart, ReplyToText, RepliesTo}
 use Rattle.dnw_write_script.specs.Runs.{GivesReply, IsUsefulIn, RunsFill, RunsItems, RunsStep, Runs, beginning}
-use Rattle.dnw_write_script.proofs.Chunks.{Begins, Chunk, Standing, ends_append, ends_of, of_record, piece_of, place, Splits, split_at, upto, upto_filled, wrote}
-use Rattle.dnw_write_script.proofs.Standing.{AreUsable, SoundAt, holds_now, lays_record, sound_filled, sound_parts, sound_reserved, sound_upto, sound_wrote, usable_precede}
+use Rattle.dnw_write_script.proofs.Chunks.{Chunk, ends_append, ends_of, of_record, piece_of, place, Splits, split_at, upto, upto_filled, wrote}
+use Rattle.dnw_write_script.proofs.Standing.{SoundAt, holds_now, lays_record, sound_filled, sound_parts, sound_reserved, sound_upto, sound_wrote, usable_precede}
 use Rattle.dnw_write_script.proofs.WireParts.{as_item_parts, as_items_parts, as_wire_part}
 
 -- ---- replies
@@ -134,9 +134,8 @@ goes_more old cs ds a v w ps len slots good sound f len_is pieces ends =
       good = record {
         sound = sound;
         len_is = len_is ∙ sym sound.end;
-        pieces_are = ap (λ (x : List Piece). x ++ ps) good.pieces_are
-            ∙ (ap (λ (x : List Piece). map piece_of cs ++ x) (sym pieces) ∙ sym (map-append piece_of cs ds));
-        places = ends ∙ (ap (λ (x : List ℕ). x ++ ends_of (upto (length old) cs) ds) good.places ∙ sym (ends_append (length old) cs ds));
+        pieces_are = cc (good.pieces_are, pieces, map-append piece_of cs ds);
+        places = cc (ends, good.places, ends_append (length old) cs ds);
         agree = rw (← f.max_size, ← f.encoding, ← f.canonical) at good.agree;
       };
       longer = omega (arith, length-append cs ds);
@@ -179,9 +178,9 @@ record_undone old cs v w r error s h =
 good_rolled : (old : List ℕ) (cs : List Chunk) (a : Account) (m u : Encoder) → Good old cs a m → Good old cs a (rolled_back m u)
 good_rolled old cs a m u good =
     let s = good.sound in
-    let holds : (x : List ℕ) → Begins old cs x → Standing x (length old) cs × AreUsable x (rolled_back m u).candidates =
-    λ x h. ((s.holds x h).0, All-filter (λ c. nat_lt c.0 m.offset) (IsUsefulIn x) m.candidates (s.holds x h).1) in
-    record { sound = record { bytes = s.bytes; end = s.end; holds = holds }; len_is = good.len_is; pieces_are = good.pieces_are; places = good.places; agree = good.agree }
+    let sound : SoundAt old cs (rolled_back m u) =
+    record { bytes = s.bytes; end = s.end; holds = λ x h. ((s.holds x h).0, All-filter (λ c. nat_lt c.0 m.offset) (IsUsefulIn x) m.candidates (s.holds x h).1) } in
+    record { sound = sound; len_is = good.len_is; pieces_are = good.pieces_are; places = good.places; agree = good.agree }
 
 -- ---- each step
 
@@ -218,8 +217,7 @@ module _ (old : List ℕ) (cs : List Chunk) (a : Account) (v w : Encoder) (good 
       let sound : SoundAt old chunks u = sound_filled old front back held value v (end - 2) (subst (λ xs. SoundAt old xs v) whole good.sound) start in
       let made : w ≡ u = h.0.2 ∙ ap (λ (x : Encoder). moved_to x v.offset) h.0.1.1 in
       let b = after_action a (fill number value) (Done len) in
-      let same_ends : ends_of (length old) chunks ≡ ends_of (length old) cs =
-      ends_append (length old) front (place value ∷ back) ∙ (sym (ends_append (length old) front (place held ∷ back)) ∙ ap (ends_of (length old)) (sym whole)) in
+      let same_ends : ends_of (length old) chunks ≡ ends_of (length old) cs = rw (whole, ends_append, ends_append) refl in
       let good_now : Good old chunks b u = record {
         sound = sound;
         len_is = good.len_is;
@@ -249,22 +247,19 @@ module _ (old : List ℕ) (cs : List Chunk) (a : Account) (v w : Encoder) (good 
 
   step-fill : (number value : ℕ) (slot : Option ℕ) (reply : Reply) → open_place number a.places ≡ slot → RunsFill v slot value reply w
       → ReplyToFill a slot reply × Goes old cs (after_action a (fill number value) reply) w
-  step-fill number value None reply here h =
-      subst (λ r. ReplyToFill a None r × Goes old cs (after_action a (fill number value) r) w) (sym h.0) (refl, goes_same old cs a v w good h.1)
+  step-fill number value None reply here h = rw h.0 (refl, goes_same old cs a v w good h.1)
   step-fill number value (Some end) reply here h =
-      let there = ap (λ (es : List ℕ). slice_get es number) (sym good.places) ∙ open_at number a.places end here in
-      fill-split number value end reply (split_at number value (length old) cs end there) h
+      fill-split number value end reply (split_at number value (length old) cs end (rw good.places at (open_at number a.places end here))) h
 
   step-record : (r : WireRecord) (reply : Reply) → GivesReply (EmitsRecord r v) reply w → Steps (write_record r) reply
   step-record r (Done len) h =
       let s = good.sound in
       let (le, within, _, _) = (fits_fields r).done v w h.0.1 in
       let f = frame_fields r v (Ok tt) w s.end h.0.1 in
-      let (d, sound) = sound_wrote old cs v w (of_record v.encoding v.canonical r) s (lays_record r v w s.end h.0.1 h.0.0 (omega (arith, within, good.agree.small))) in
-      let piece : record_piece v.encoding v.canonical r ≡ record_piece a.mode a.canonical r = rw (good.agree.mode, good.agree.canonical) refl in (
+      let (d, sound) = sound_wrote old cs v w (of_record v.encoding v.canonical r) s (lays_record r v w s.end h.0.1 h.0.0 (omega (arith, within, good.agree.small))) in (
         (omega (arith, h.1, f.ends, within, good.agree.max), omega (arith, h.1, f.ends, le, good.len_is)),
         goes_more old cs (wrote (of_record v.encoding v.canonical r) d ∷ []) a v w (record_piece a.mode a.canonical r ∷ []) len a.places good sound f h.1
-            (ap (λ p. p ∷ []) piece) (sym (append-nil _)),
+            (cc (good.agree.mode, good.agree.canonical)) (sym (append-nil _)),
       )
   step-record r (Refused error len) h =
       let same = record_undone old cs v w r error good.sound h.0 in
@@ -296,8 +291,8 @@ module _ (old : List ℕ) (cs : List Chunk) (a : Account) (v w : Encoder) (good 
       let g = go.good in
       let start : len ≡ m.offset = ended ∙ sym g.sound.end in
       let why = refused_parts (item_parts m.encoding item) m u cause (as_item_parts item m u (Err cause) g.sound.end one) in
-      let front : take count items ≡ first = ap (take count) split ∙ take_at first (item ∷ rest) count (sym many) in
-      let back : drop count items ≡ item ∷ rest = ap (drop count) split ∙ drop_at first (item ∷ rest) count (sym many) in
+      let front : take count items ≡ first = cc (take_at first (item ∷ rest) count (sym many)) in
+      let back : drop count items ≡ item ∷ rest = cc (drop_at first (item ∷ rest) count (sym many)) in
       let fails = refused_item a count len item rest cause (rw (sym g.agree.max, ← start, ← g.agree.mode) at why) in
       let few : count < length items = omega (arith, many, ap length split, length-append first (item ∷ rest)) in
       let b = with_pieces a (map wire_piece (items_parts a.mode first)) len in

@@ -51,15 +51,11 @@ as_parts mode [] v u (Ok tt) e h = ap (λ (x : Encoder). in_encoding x v.encodin
 as_parts mode [] v u (Err error) e h = absurd h
 as_parts mode (part ∷ parts) v u (Ok tt) e (m, one, more) =
     let f = frame_part part (in_encoding v mode) (Ok tt) m e one in
-    let n = in_encoding m v.encoding in
-    let rest = subst (λ (x : Encoder). EmitsParts parts x (Ok tt) u) (sym (own mode m f.encoding)) more in
-    (n, as_part mode part v m (Ok tt) one, as_parts mode parts n u (Ok tt) f.ends rest)
+    (in_encoding m v.encoding, as_part mode part v m (Ok tt) one, as_parts mode parts _ u (Ok tt) f.ends (rw (own mode m f.encoding) more))
 as_parts mode (part ∷ parts) v u (Err error) e (inl one) = inl (as_part mode part v u (Err error) one)
 as_parts mode (part ∷ parts) v u (Err error) e (inr (m, one, more)) =
     let f = frame_part part (in_encoding v mode) (Ok tt) m e one in
-    let n = in_encoding m v.encoding in
-    let rest = subst (λ (x : Encoder). EmitsParts parts x (Err error) u) (sym (own mode m f.encoding)) more in
-    inr (n, as_part mode part v m (Ok tt) one, as_parts mode parts n u (Err error) f.ends rest)
+    inr (in_encoding m v.encoding, as_part mode part v m (Ok tt) one, as_parts mode parts _ u (Err error) f.ends (rw (own mode m f.encoding) more))
 
 pub as_item_parts : (item : Item) (v w : Encoder) (outcome : Outcome) → v.offset ≡ length v.bytes → EmitsScriptItem item v outcome w
     → EmitsWireParts (item_parts v.encoding item) v outcome w
