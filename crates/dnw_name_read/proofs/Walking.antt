@@ -15,12 +15,8 @@ use Rattle.dnw_name_read.proofs.Found.{labels_at_NameAt, StandsAt_found}
 
 -- a walk begins at the start, in a segment with any limit
 Leads_start : (b : List ℕ) (p : ℕ) (limit : Option ℕ) (passed : List (List ℕ)) → passed ≡ [] → Leads b p p p limit passed
-Leads_start b p limit passed none = record {
-  more = 0;
-  own = λ e. e;
-  earlier = omega arith;
-  goes_on = record { reads = λ ls e k r. rw (none, zero-add) (Reads_wider p None (omega arith) tt r) };
-}
+Leads_start b p limit passed none =
+    record { more = 0; own = λ e. e; earlier = omega arith; goes_on = record { reads = λ ls e k r. rw (none, zero-add) (Reads_wider p None (omega arith) tt r) } }
 
 pub WalksOn_start : (b : List ℕ) (p end : ℕ) → WalksOn b p p p p (length b) end 1 0 0
 WalksOn_start b p end = record {
@@ -107,12 +103,9 @@ module _ {b : List ℕ} {start first p s limit end size pointers labels : ℕ} (
 
   pub WalksOn-pointer : (t e : ℕ) → IsPointerAt b p s t → e ≡ unwrap_or (once_followed pointers end) (p + 2)
       → WalksOn b start first t t s e size (pointers + 1) labels
-  WalksOn-pointer t e at end_is = WalksOn-jump t e first at end_is (record {
-    more = suc h.leads.more;
-    own = λ e. h.leads.own (p + 2);
-    earlier = omega (arith, at.prior, h.leads.earlier);
-    goes_on = goes-pointer w h.leads.goes_on t at;
-  })
+  WalksOn-pointer t e at end_is =
+      let earlier : t + suc h.leads.more ≤ first = omega (arith, at.prior, h.leads.earlier) in
+      WalksOn-jump t e first at end_is (record { more = suc h.leads.more; own = λ e. h.leads.own (p + 2); earlier = earlier; goes_on = goes-pointer w h.leads.goes_on t at })
 
 -- how a walk begins and goes on
 pub ruleset walking = (WalksOn_start, WalksOn-label, WalksOn-first, WalksOn-pointer)
