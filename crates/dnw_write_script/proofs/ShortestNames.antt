@@ -44,9 +44,6 @@ end_within : (piece : Piece) (front back : List (List ℕ)) → IsEndOf (front +
 end_within (name_piece mode labels) front back (first, is) = (first ++ front, is ∙ sym (append_assoc first front back))
 end_within piece front back h = absurd h
 
-ends_within : (pieces : List Piece) (front back : List (List ℕ)) → EndsIn pieces (front ++ back) → EndsIn pieces back
-ends_within pieces front back (p, has, is) = (p, has, end_within p front back is)
-
 -- ---- what is known of the candidates
 
 -- A candidate has the bytes of labels in which a name ends.
@@ -102,11 +99,12 @@ module _ (old : List ℕ) (a : Account) (v : Encoder) (labels many : ℕ) (k : K
       kept_front v ls front back None back chosen (λ none. absurd (some none)) split (sym (append-nil back)) near room
   kept-suffix ls front back (Some share) are (compressed, points) old split some near room =
       let ends = shared-ends ls share are (compressed, points) in
-      let parts : share.front ++ share.back ≡ front ++ back = sym points.parts ∙ split in
+      let parts : share.front ++ share.back ≡ front ++ back = cc (points.parts, split) in
       ⊎_elim
       (λ less.
       let (_, is) = suffix_within front back share.front share.back (sym parts) (omega (arith, less)) in
-      let (o, has) = old (ends_within a.pieces (drop (length share.front) front) back (rw is at ends)) in
+      let (piece, within, whole) = rw is at ends in
+      let (o, has) = old (piece, within, end_within piece _ back whole) in
       (o, Contains-append_left v.candidates _ _ has))
       (λ le. let (longer, is) = suffix_within share.front share.back front back parts le in
       kept_front v ls front back (Some share) (drop (length front) share.front) (compressed, points) (λ same. old (rw (← same) at ends)) longer is near room)
@@ -256,7 +254,6 @@ names_are_shortest old candidates names actions replies w h first name rest give
     let a = account_from (opening (length old)) first given in
     let g = k.good in
     let mode : is_compressed m.encoding ≡ true = cc (g.agree.mode, compressed) in
-    let counts : compresses m ≡ true = compresses_within m mode (omega (arith, k.names)) in
-    let s = shortest old a m (length name.labels) 1 k near (in_mode m.encoding name.labels) one.0.choice x counts one.0.are_labels one.0.chooses one.0.written_as.1 in
+    let s = shortest old a m (length name.labels) 1 k near (in_mode m.encoding name.labels) one.0.choice x (compresses_within m mode (omega (arith, k.names))) one.0.are_labels one.0.chooses one.0.written_as.1 in
     let ends : x.offset ≡ len = (frame_name name m (Ok tt) x g.sound.end one.0).ends ∙ sym one.1 in
     rw (in_mode_compressed m.encoding name.labels mode, ← g.len_is, ends) at s

@@ -117,10 +117,8 @@ lays_then {v} one two = record {
   bytes = two.bytes ∙ rw one.bytes (append_assoc v.bytes one.d two.d);
   offset = omega (arith, one.offset, two.offset, length-append one.d two.d);
   there = λ y more size usable.
-      let (p, _) = one.there y (two.d ++ more) size usable in
-      let between = rw append-nil at (one.there y [] size usable).1 in
-      let (q, after) = two.there (y ++ one.d) more (omega (arith, size, one.offset, length-append y one.d)) between in
-      rw (append_assoc one.d two.d more) ((p, rw append_assoc at q), rw append_assoc at after);
+      let (q, after) = two.there (y ++ one.d) more (omega (arith, size, one.offset, length-append y one.d)) (rw append-nil at (one.there y [] size usable).1) in
+      rw (append_assoc one.d two.d more) (((one.there y (two.d ++ more) size usable).0, rw append_assoc at q), rw append_assoc at after);
 }
 
 lays_bytes : (v w : Encoder) (d : List ℕ) → v.offset ≡ length v.bytes → Writes v d (Ok tt) w → Lays v w (λ x. BytesStand x d v.offset w.offset)
@@ -194,8 +192,7 @@ pub lays_record : (r : WireRecord) (v w : Encoder) → v.offset ≡ length v.byt
 lays_record r v w e (a, owner, (d, fixed, (room, u, one, made))) fit few =
     let f = frame_name r.owner v (Ok tt) a e owner in
     let g = frame a (wire_fixed r) (Ok tt) d f.ends fixed in
-    let last = lays_data r.rdata (reserved d 2) u (frame_reserved d g.ends).ends one in
-    let all = lays_then (lays_name r.owner v a e owner) (lays_then (lays_bytes a d (wire_fixed r) f.ends fixed) (lays_sized g.ends last made)) in
+    let last = lays_sized g.ends (lays_data r.rdata (reserved d 2) u (frame_reserved d g.ends).ends one) made in
     let after : d.offset + 2 ≡ a.offset + 10 = omega (arith, ap (λ (x : Encoder). x.offset) fixed.1) in
     let same : u.offset ≡ w.offset = sym (ap (λ (x : Encoder). x.offset) made) in
     lays_map (λ x (name, (eight, (len, rdata))). record {
@@ -206,7 +203,7 @@ lays_record r v w e (a, owner, (d, fixed, (room, u, one, made))) fit few =
       rdata = rw (after, g.encoding, f.encoding, g.canonical, f.canonical, same) at rdata;
       few = few;
       fit = fit;
-    }) all
+    }) (lays_then (lays_name r.owner v a e owner) (lays_then (lays_bytes a d (wire_fixed r) f.ends fixed) last))
 
 -- ---- chunks
 

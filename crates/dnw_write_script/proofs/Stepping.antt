@@ -116,12 +116,9 @@ pub goes_same : (old : List ℕ) (cs : List Chunk) (a : Account) (v w : Encoder)
 goes_same old cs a v w good same = record { chunks = cs; good = subst (Good old cs a) (sym same) good; longer = omega arith; same = λ k le. refl }
 
 pub goes_then : (old : List ℕ) (cs : List Chunk) (a b : Account) (v w : Encoder) (one : Goes old cs a v) → Goes old one.chunks b w → Goes old cs b w
-goes_then old cs a b v w one two = record {
-  chunks = two.chunks;
-  good = two.good;
-  longer = omega (arith, one.longer, two.longer);
-  same = λ k le. two.same k (omega (arith, le, one.longer)) ∙ one.same k le;
-}
+goes_then old cs a b v w one two =
+    let longer : length cs ≤ length two.chunks = omega (arith, one.longer, two.longer) in
+    record { chunks = two.chunks; good = two.good; longer = longer; same = λ k le. two.same k (omega (arith, le, one.longer)) ∙ one.same k le }
 
 -- Chunks were written with these pieces, and placeholders that end there.
 goes_more : (old : List ℕ) (cs ds : List Chunk) (a : Account) (v w : Encoder) (ps : List Piece) (len : ℕ) (slots : List Slot) → Good old cs a v
@@ -198,12 +195,11 @@ module _ (old : List ℕ) (cs : List Chunk) (a : Account) (v w : Encoder) (good 
   goes-reserve : (reply : Reply) → RunsStep a v reserve reply w → Goes old cs (after_action a reserve reply) w
   goes-reserve (Done len) h =
       let s = good.sound in
-      let sound = subst (SoundAt old (cs ++ place 0 ∷ [])) (sym h.0.1) (sound_reserved old cs v s) in
-      let f = subst (Frame v (Ok tt)) (sym h.0.1) (frame_reserved v s.end) in
+      let sound : SoundAt old (cs ++ place 0 ∷ []) w = rw h.0.1 (sound_reserved old cs v s) in
       let end : upto (length old) cs + 2 ≡ len = omega (arith, h.1, sound.end, ap (λ (x : Encoder). x.offset) h.0.1, sound_upto old cs v s) in
       let slot : Slot = record { end = len; is_open = true } in
-      goes_more old cs (place 0 ∷ []) a v w (place_piece 0 ∷ []) len (a.places ++ slot ∷ []) good sound f h.1 refl
-      (map-append (λ (s : Slot). s.end) a.places (slot ∷ []) ∙ ap (λ n. map (λ (s : Slot). s.end) a.places ++ n ∷ []) (sym end))
+      goes_more old cs (place 0 ∷ []) a v w (place_piece 0 ∷ []) len (a.places ++ slot ∷ []) good sound (rw h.0.1 (frame_reserved v s.end)) h.1 refl
+      (cc (end, map-append (λ (s : Slot). s.end) a.places (slot ∷ [])))
   goes-reserve (Refused error len) h = goes_same old cs a v w good (refused_room v (reserved v 2) w 2 error h.0).0
   goes-reserve reply h = absurd h
 
@@ -213,8 +209,7 @@ module _ (old : List ℕ) (cs : List Chunk) (a : Account) (v w : Encoder) (good 
   fill-split number value end (Done len) (front, held, back, whole, ends, within, pieces) h =
       let chunks = front ++ place value ∷ back in
       let u = filled v (end - 2) (to_be_bytes w16 value) in
-      let start : end - 2 ≡ upto (length old) front = omega (arith, ends) in
-      let sound : SoundAt old chunks u = sound_filled old front back held value v (end - 2) (subst (λ xs. SoundAt old xs v) whole good.sound) start in
+      let sound : SoundAt old chunks u = sound_filled old front back held value v (end - 2) (rw whole at good.sound) (omega (arith, ends)) in
       let made : w ≡ u = h.0.2 ∙ ap (λ (x : Encoder). moved_to x v.offset) h.0.1.1 in
       let b = after_action a (fill number value) (Done len) in
       let same_ends : ends_of (length old) chunks ≡ ends_of (length old) cs = rw (whole, ends_append, ends_append) refl in
@@ -277,8 +272,7 @@ module _ (old : List ℕ) (cs : List Chunk) (a : Account) (v w : Encoder) (good 
       let parts = items_parts a.mode items in
       let emits = as_items_parts a.mode items v m good.sound.end (sym good.agree.mode) h in
       let go = goes_parts old cs a v m parts len good emits is in
-      let most = parts-bounded a v w good.sound.end good.len_is good.agree.max parts m len emits is in
-      (omega (arith, done_parts parts v m emits, is, go.good.sound.end, good.len_is), most, go)
+      (omega (arith, done_parts parts v m emits, is, go.good.sound.end, good.len_is), parts-bounded a v w good.sound.end good.len_is good.agree.max parts m len emits is, go)
 
   step-items : (items : List Item) (reply : Reply) → RunsItems v items reply w → Steps (write_items items) reply
   step-items items (Items count None len) h =
