@@ -141,23 +141,21 @@ piece_stands x b more p (place value) is size h = bytes_stand x b (to_be_bytes w
 -- In the bytes of the chunks the first k pieces are there.
 pub spells : (x b : List ℕ) (p k : ℕ) (cs : List Chunk) → length b ≡ p → x ≡ b ++ laid cs → Standing x p cs
     → PiecesLie x (take k (map piece_of cs)) p (upto p (take k cs))
-spells x b p zero cs size is h = refl
-spells x b p (suc k) [] size is h = refl
 spells x b p (suc k) (c ∷ cs) size is h =
     let d = bytes_of c in (
       p + length d,
       piece_stands x b (laid cs) p c is size h.0,
       spells x (b ++ d) (p + length d) k cs (omega (arith, size, length-append b d)) (is ∙ sym (append_assoc b d (laid cs))) h.1,
     )
+spells x b p k cs size is h = refl
 
 -- ---- a placeholder is filled
 
 -- another value ends where the first one did
 pub upto_filled : (p k value other : ℕ) (front back : List Chunk)
     → upto p (take k (front ++ place value ∷ back)) ≡ upto p (take k (front ++ place other ∷ back))
-upto_filled p zero value other front back = refl
-upto_filled p (suc k) value other [] back = refl
 upto_filled p (suc k) value other (c ∷ front) back = upto_filled (p + length (bytes_of c)) k value other front back
+upto_filled p k value other front back = refl
 
 -- neither a part nor a record is a placeholder
 filled_after : (number value : ℕ) (content : Content) (ps : List Piece) → filled_in (piece_in content ∷ ps) number value ≡ piece_in content ∷ filled_in ps number value

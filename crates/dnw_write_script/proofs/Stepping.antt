@@ -1,7 +1,7 @@
 -- Each step of a run has its reply, and keeps what holds of account and encoder; and so do all.
 use Rattle.std.proofs.Common.{◌≡◌, ℕ, Bool, zero, suc, ◌+◌, ◌-◌, ◌<◌, ◌≤◌, max, nat_lt, true, Option, Some, None, Ok, Err, List, [], ◌∷◌, ◌++◌, length, map, take, drop, slice_get, inl, inr, refl, sym, ap, ◌∙◌, subst, arith}
 use Rattle.std.specs.Int.{w16, to_be_bytes}
-use Rattle.std.proofs.lemmas.Bool.{cond_both}
+use Rattle.std.proofs.lemmas.Option.{cond_some}
 use Rattle.std.proofs.lemmas.List.Elements.{All-filter, All-nil}
 use Rattle.std.proofs.lemmas.List.{append-nil, drop_at, length-append, map-append, take-append-le, take_all, take_at}
 use Rattle.dnw_base.specs.declared.error.ProtoError.{ProtoError}
@@ -67,8 +67,7 @@ module _ (a : Account) (v w : Encoder) (at_end : v.offset ≡ length v.bytes) (l
       let (u, em, is) = h.0 in
       let f = frame_wire_part (name_part mode name) v (Ok tt) w at_end h.0 in
       let (le, within, _, _) = done_part (name_part mode name) v w h.0 in
-      let fits = room_least (in_mode mode name.labels) em.choice in
-      (omega (arith, em.written_as.0, fits, size_in_mode mode name.labels), omega (arith, h.1, f.ends, le), omega (arith, h.1, f.ends, within, max_is))
+      omega (arith, room_least (in_mode mode name.labels) em.choice, em.written_as.0, size_in_mode mode name.labels, h.1, f.ends, le, within)
   reply-part (name_part mode name) (Refused error len) h =
       let (u, em, is) = h.0 in
       let same = h.1 ∙ ap (λ (x : Encoder). length x.bytes) (refused_part (name_part mode name) [] v w error h.0).0 in
@@ -159,14 +158,13 @@ part_same part v w error e h = (refused_part (wire_part v.encoding part) [] v w 
 -- a placeholder that is open is among them
 open_at : (i : ℕ) (slots : List Slot) (end : ℕ) → open_place i slots ≡ Some end → slice_get (map (λ (s : Slot). s.end) slots) i ≡ Some end
 open_at i [] end here = absurd cc
-open_at zero (slot ∷ slots) end here =
-    cond_both slot.is_open (Some slot.end) None (λ x. x ≡ Some end → Some slot.end ≡ Some end) (λ test e. e) (λ test e. absurd cc) here
+open_at zero (slot ∷ slots) end here = cc (cond_some slot.is_open slot.end end here).1
 open_at (suc i) (slot ∷ slots) end here = open_at i slots end here
 
 ends_spent : (i : ℕ) (slots : List Slot) → map (λ (s : Slot). s.end) (spent i slots) ≡ map (λ (s : Slot). s.end) slots
 ends_spent i [] = refl
 ends_spent zero (slot ∷ slots) = refl
-ends_spent (suc i) (slot ∷ slots) = ap (λ (es : List ℕ). slot.end ∷ es) (ends_spent i slots)
+ends_spent (suc i) (slot ∷ slots) = cc (ends_spent i slots)
 
 pub record_undone : (old : List ℕ) (cs : List Chunk) (v w : Encoder) (r : WireRecord) (error : ProtoError) → SoundAt old cs v → EmitsRecord r v (Err error) w → w ≡ v
 record_undone old cs v w r error s h =
