@@ -153,12 +153,12 @@ Stops_jump w at f = pointer at.high at.low w at.first at.marked at.second (rw at
 
 -- what is left of the message ends within a label or a pointer
 pub short_label : {b : List ℕ} {p s n : ℕ} {limit : Option ℕ} → IsWithin p limit → 1 ≤ get_or b p 0 → get_or b p 0 ≤ 63
-    → length b - p ≤ get_or b p 0 → p < length b → Stops b p s limit n InsufficientBytes 0 0
-short_label {b} {p} w one most cut inside = cut_label (get_or b p 0) w (slice_get-get_or b p 0 inside) one most (omega arith)
+    → length b < p + 1 + get_or b p 0 → p < length b → Stops b p s limit n InsufficientBytes 0 0
+short_label {b} {p} w one most cut inside = cut_label (get_or b p 0) w (slice_get-get_or b p 0 inside) one most cut
 
 pub short_pointer : {b : List ℕ} {p s n : ℕ} {limit : Option ℕ} → IsWithin p limit → 192 ≤ get_or b p 0
-    → length b - p ≤ 1 → p < length b → Stops b p s limit n InsufficientBytes 0 0
-short_pointer {b} {p} w least cut inside = half_pointer (get_or b p 0) w (slice_get-get_or b p 0 inside) least (omega arith)
+    → length b ≤ p + 1 → p < length b → Stops b p s limit n InsufficientBytes 0 0
+short_pointer {b} {p} w least cut inside = half_pointer (get_or b p 0) w (slice_get-get_or b p 0 inside) least cut
 
 -- the reasons for which reading stops at once
 pub ruleset stopping = (gets, overlap, no_octet, short_pointer, not_prior, short_label, reserved)

@@ -189,7 +189,7 @@ fn label_at(
     ensures ok { IfOk result (IsElement message.now position segment) }
     ensures err { IfErr result (IsNoElement message.now position segment) }
 {
-    if message.len() - position <= len {
+    if position + 1 + len > message.len() {
         return Err(DecodeError::InsufficientBytes);
     }
     Ok(Element::Label(len))
@@ -210,7 +210,7 @@ fn pointer_at(
     ensures ok { IfOk result (IsElement message.now position segment) }
     ensures err { IfErr result (IsNoElement message.now position segment) }
 {
-    if message.len() - position <= 1 {
+    if position + 1 >= message.len() {
         return Err(DecodeError::InsufficientBytes);
     }
     let target = pointer_target(high, message[position + 1]);
