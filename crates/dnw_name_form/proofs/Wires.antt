@@ -1,7 +1,7 @@
 -- The labels that an uncompressed form gives back.
-use Rattle.std.proofs.Common.{◌≡◌, ◌↔◌, ℕ, zero, suc, ◌+◌, ◌-◌, ◌≤◌, List, [], ◌∷◌, ◌++◌, length, take, drop, refl, sym, ap, ◌∙◌, subst, append_assoc, arith}
+use Rattle.std.proofs.Common.{◌≡◌, ◌↔◌, ℕ, zero, suc, ◌+◌, ◌-◌, ◌<◌, ◌≤◌, List, [], ◌∷◌, ◌++◌, length, take, drop, set, refl, sym, ap, ◌∙◌, subst, append_assoc, arith}
 use Rattle.std.specs.List.{AllByRecursion}
-use Rattle.std.proofs.lemmas.List.{take_at, drop_at, length-append}
+use Rattle.std.proofs.lemmas.List.{take_at, drop_at, length-append, set_split, drop_all}
 use Rattle.dnw_base.specs.Labels.{IsLabel, wildcard}
 use Rattle.dnw_base.specs.Names.{AreLabels, encoded_size, labels_wire, wire}
 use Rattle.dnw_base.proofs.Wires.{wire_cons, encoded_size_cons, encoded_size_push, length_wire, AllByRecursion_push, labels_wire_push, few_labels, AreLabels_rest, AreLabels_few, no_labels_size}
@@ -48,16 +48,22 @@ few_octets bytes w = omega (arith, size_of_wire bytes w, w.labels.fit)
 pub one_octet : (bytes : List ℕ) → IsWire bytes → (length bytes ≡ 1) ↔ (labels_of bytes ≡ [])
 one_octet bytes w = rw (← size_of_wire bytes w) (no_labels_size (labels_of bytes))
 
--- a label put before the closing zero is the last label
+-- there is the closing zero
+pub some_octet : (bytes : List ℕ) → IsWire bytes → length bytes - 1 < length bytes
+some_octet bytes w = omega (arith, size_of_wire bytes w)
+
+-- a label put in the place of the closing zero, with a zero after it, is the last label
 pub IsWire_push : (bytes label : List ℕ) → IsWire bytes → IsLabel label → length bytes + 1 + length label ≤ 255
-    → IsWire (take (length bytes - 1) bytes ++ length label ∷ [] ++ label ++ 0 ∷ [])
-    × (labels_of (take (length bytes - 1) bytes ++ length label ∷ [] ++ label ++ 0 ∷ []) ≡ labels_of bytes ++ label ∷ [])
+    → IsWire (set bytes (length bytes - 1) (length label) ++ label ++ 0 ∷ [])
+    × (labels_of (set bytes (length bytes - 1) (length label) ++ label ++ 0 ∷ []) ≡ labels_of bytes ++ label ∷ [])
 IsWire_push bytes label w h room =
     let ls : List (List ℕ) = labels_of bytes in
     let more : AreLabels (ls ++ label ∷ []) = record { each = AllByRecursion_push ls label w.labels.each h; fit = omega (arith, encoded_size_push ls label, size_of_wire bytes w, room) } in
     let front : take (length bytes - 1) bytes ≡ labels_wire ls = front_of ls bytes w.spelled in
-    let form : take (length bytes - 1) bytes ++ length label ∷ [] ++ label ++ 0 ∷ [] ≡ wire (ls ++ label ∷ []) =
-    rw (front, labels_wire_push ls label, append_assoc (labels_wire ls) (length label ∷ []) label) refl in
+    let last = set_split bytes (length bytes - 1) (length label) (some_octet bytes w) in
+    let none : drop (suc (length bytes - 1)) bytes ≡ [] = drop_all (suc (length bytes - 1)) bytes (omega arith) in
+    let form : set bytes (length bytes - 1) (length label) ++ label ++ 0 ∷ [] ≡ wire (ls ++ label ∷ []) =
+    rw (last, none, front, labels_wire_push ls label, append_assoc (labels_wire ls) (length label ∷ []) label) refl in
     labels_of_form _ (ls ++ label ∷ []) form more
 
 -- a form that begins with a zero is that of no labels

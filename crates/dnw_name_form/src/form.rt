@@ -220,6 +220,7 @@ impl WireForm {
 }
 
 /// Adds a label before the closing zero.
+#[tactic(auto, using(crate::proofs::Wires::some_octet))]
 fn push_label(bytes: &mut Octets, label: &[u8])
     requires wire { IsWire bytes.old }
     requires label { IsLabel label.now }
@@ -227,8 +228,9 @@ fn push_label(bytes: &mut Octets, label: &[u8])
     ensures wire { IsWire bytes.new }
     ensures labels { labels_of bytes.new ≡ labels_of bytes.old ++ label.now ∷ [] }
 {
-    bytes.pop();
-    bytes.push(label.len() as u8);
+    // The length is in the place of the zero octet that ended the form.
+    let end = bytes.len() - 1;
+    bytes.set(end, label.len() as u8);
     bytes.extend(label);
     bytes.push(0);
 }
