@@ -123,13 +123,12 @@ lays_then {v} one two = record {
 
 lays_bytes : (v w : Encoder) (d : List ℕ) → v.offset ≡ length v.bytes → Writes v d (Ok tt) w → Lays v w (λ x. BytesStand x d v.offset w.offset)
 lays_bytes v w d e h =
-    let offset : w.offset ≡ v.offset + length d = ap (λ (x : Encoder). x.offset) h.1 in
-    record {
+    rw h.1 (record {
       d = d;
-      bytes = added v w d e h.1;
-      offset = offset;
-      there = λ y more size usable. (rw offset (bytes_stand _ y d more v.offset refl size), rw h.1 (usable_append y (d ++ more) v.candidates usable));
-    }
+      bytes = added v _ d e refl;
+      offset = refl;
+      there = λ y more size usable. (bytes_stand _ y d more v.offset refl size, usable_append y (d ++ more) v.candidates usable);
+    })
 
 lays_name : (name : NameValue) (v w : Encoder) → v.offset ≡ length v.bytes → EmitsName name v (Ok tt) w
     → Lays v w (λ x. NameStands x v.encoding name.labels v.offset w.offset)

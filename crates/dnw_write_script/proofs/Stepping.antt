@@ -332,10 +332,6 @@ goes old cs a v w actions replies good h = absurd h
 
 -- a new encoder at the end of its buffer agrees with the opening account on no chunks
 pub good_beginning : (old : List ℕ) (candidates names : ℕ) → Good old [] (opening (length old)) (beginning old candidates names)
-good_beginning old candidates names = record {
-  sound = record { bytes = sym (append-nil old); end = refl; holds = λ x h. (tt, All-nil (IsUsefulIn x)) };
-  len_is = refl;
-  pieces_are = refl;
-  places = refl;
-  agree = record { max = refl; mode = refl; canonical = refl; small = omega arith };
-}
+good_beginning old candidates names =
+    let sound : SoundAt old [] (beginning old candidates names) = record { bytes = sym (append-nil old); end = refl; holds = λ x h. (tt, All-nil (IsUsefulIn x)) } in
+    record { sound = sound; len_is = refl; pieces_are = refl; places = refl; agree = record { max = refl; mode = refl; canonical = refl; small = omega arith } }
