@@ -150,7 +150,7 @@ fn of_data(record: usize, error: RDataError) -> CanonicalError
     }
 }
 
-/// Checks that fields, of which there are so many, end where the octets do. They begin at an offset.
+/// Checks that fields, of which there are `count`, end where the octets do. They begin at an offset, `first`.
 fn check_end(reader: &BinDecoder<'_>, first: usize, count: usize) -> Result<(), FieldError>
     requires { first ≤ reader.now.index }
     ensures ok { OnOk result (IsAtEnd reader.now) }
