@@ -27,3 +27,4 @@ pub mod Lengths
 pub mod Pushed
 pub mod NamesRead
 pub mod WordParts
+mod Marks

@@ -1,7 +1,7 @@
 //! How a text is split into words.
 ghost use Rattle.std.specs.Prelude.{◌≡◌, ◌≤◌, ◌+◌, ◌-◌, length, false, IfOk};
 ghost use Rattle.std.specs.List.{filter, list_all};
-ghost use Rattle.dnw_zone_data.specs.Inside.WordParts.{is_word_part};
+ghost use Rattle.dnw_zone_data.specs.Inside.WordParts.{is_mark, is_word_part};
 ghost use Rattle.dnw_zone_data.specs.Words.{after_param, after_spaces, after_word, begins_with_quote, is_asterisk, is_word_end, is_no_space, is_space, param_len, param_word, plain_len, quoted_len, word, word_len};
 
 use std::alloc::{AllocError, Global};
@@ -191,10 +191,26 @@ pub fn is_asterisk(word: &[u8]) -> bool
 }
 
 /// Returns `true` if no character of a text is white space.
+#[tactic(auto, using(crate::proofs::Marks::no_spaces))]
 pub(crate) fn has_no_spaces(text: &[u8]) -> bool
     ensures { result ≡ list_all is_no_space text.now }
 {
-    text.iter().all(|c| !is_space(*c))
+    are_marks(text) || text.iter().all(|c| !is_space(*c))
+}
+
+/// Returns `true` if each character is after the space. It looks at all of them, so that the processor takes many at once.
+#[inline(always)]
+#[tactic(auto, using(std::proofs::lemmas::List::Folds::list_all_more))]
+fn are_marks(text: &[u8]) -> bool
+    ensures { result ≡ list_all is_mark text.now }
+{
+    let mut all = true;
+    for c in text {
+        if *c <= b' ' {
+            all = false;
+        }
+    }
+    all
 }
 
 /// Returns the characters of a text that are no white space.

@@ -1,9 +1,10 @@
 -- Places after octets of a line, and after its end.
-use Rattle.std.proofs.Common.{◌≡◌, ◌≢◌, ℕ, ◌+◌, ◌-◌, ◌≤◌, List, [], ◌∷◌, length, take, drop, get_or, refl, ap, ◌∙◌, arith, length-drop}
-use Rattle.std.proofs.lemmas.Bool.{eq-eqb, ne_eqb}
+use Rattle.std.proofs.Common.{◌≡◌, ◌≢◌, ℕ, ◌+◌, ◌-◌, ◌≤◌, List, [], ◌∷◌, length, take, drop, get_or, refl, ap, ◌∙◌, arith, length-drop, ◌++◌, true, false}
+use Rattle.std.proofs.lemmas.Bool.{and_parts, eq-eqb, ne_eqb}
 use Rattle.std.proofs.lemmas.List.{take_all}
+use Rattle.std.specs.List.{list_all}
 use Rattle.dnw_zone_file.specs.Places.{place_from}
-use Rattle.dnw_zone_file.specs.Inside.PlaceLines.{BeginsWithLine, IsInLine, IsInLineUpTo}
+use Rattle.dnw_zone_file.specs.Inside.PlaceLines.{BeginsWithLine, IsInLine, IsInLineUpTo, is_no_feed}
 
 -- one octet more, which is no line feed
 pub next : (text left rest : List ℕ) (c : ℕ) → length left ≤ length text → IsInLineUpTo left text → left ≡ c ∷ rest → c ≢ 10
@@ -45,3 +46,15 @@ pub four_more : (text left : List ℕ) → 4 ≤ length left → length left ≤
 four_more text left size within is_a is_b is_c is_d so =
     let rest : take (length left - 4) (drop 4 left) ≡ drop 4 left = take_all (length left - 4) (drop 4 left) (omega (arith, length-drop 4 left)) in
     rw rest (omega (arith, length-drop 4 left, within), fours text left size within is_a is_b is_c is_d so)
+
+-- octets without a line feed, and one after them
+pub one_line : (line column : ℕ) (front : List ℕ) → list_all is_no_feed front ≡ true
+    → place_from (record { line = line; column = column }) (front ++ 10 ∷ []) ≡ record { line = line + 1; column = 0 }
+one_line line column [] free = refl
+one_line line column (c ∷ cs) free =
+    let parts = and_parts (is_no_feed c) (list_all is_no_feed cs) free in
+    let other : c ≢ 10 = λ e. (let wrong : false ≡ true = rw e at parts.0 in cc) in
+    let step : place_from (record { line = line; column = column }) (c ∷ (cs ++ 10 ∷ []))
+    ≡ place_from (record { line = line; column = column + 1 }) (cs ++ 10 ∷ []) =
+    rw (ne_eqb c 10 other, place_from) refl in
+    step ∙ one_line line (column + 1) cs parts.1

@@ -1,6 +1,7 @@
 //! Lines and columns of texts.
-ghost use Rattle.std.specs.Prelude.{◌≡◌, ◌<◌, length, take, IfSome, MatchOption};
-ghost use Rattle.dnw_zone_file.specs.Inside.PlaceLines.{BeginsWithLine, IsInLine};
+ghost use Rattle.std.specs.Prelude.{◌≡◌, ◌<◌, true, length, take, IfSome, MatchOption};
+ghost use Rattle.std.specs.List.{list_all};
+ghost use Rattle.dnw_zone_file.specs.Inside.PlaceLines.{BeginsWithLine, IsInLine, is_no_feed};
 ghost use Rattle.dnw_zone_file.specs.Places.{place_from};
 
 /// A place in a text, as editors count it, from 0.
@@ -23,6 +24,9 @@ pub fn place_of(text: &[u8], offset: usize) -> TextPlace
 fn place_after(front: &[u8]) -> TextPlace
     ensures { result ≡ place_from (record { line = 0; column = 0 }) front.now }
 {
+    if is_line(front) {
+        return TextPlace { line: 1, column: 0 };
+    }
     let mut line = 0;
     let mut left = front;
     while let Some(rest) = after_line(left) {
@@ -33,6 +37,32 @@ fn place_after(front: &[u8]) -> TextPlace
         line,
         column: left.len(),
     }
+}
+
+/// Returns `true` if octets are a line with the line feed that ends it, as most entries are.
+#[inline(always)]
+fn is_line(front: &[u8]) -> bool
+    ensures { result ≡ true → place_from (record { line = 0; column = 0 }) front.now ≡ record { line = 1; column = 0 } }
+{
+    match front.split_last() {
+        Some((b'\n', before)) => has_no_feed(before),
+        _ => false,
+    }
+}
+
+/// Returns `true` if no octet is a line feed. It looks at all of them, so that the processor takes many at once.
+#[inline(always)]
+#[tactic(auto, using(std::proofs::lemmas::List::Folds::list_all_more))]
+fn has_no_feed(octets: &[u8]) -> bool
+    ensures { result ≡ list_all is_no_feed octets.now }
+{
+    let mut none = true;
+    for c in octets {
+        if *c == b'\n' {
+            none = false;
+        }
+    }
+    none
 }
 
 /// Returns what is after the first line feed, if there is one.

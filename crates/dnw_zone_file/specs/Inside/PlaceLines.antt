@@ -1,5 +1,5 @@
 -- Octets without a line feed, and what is after one.
-use Rattle.std.specs.Prelude.{◌≡◌, ℕ, ◌+◌, List, length}
+use Rattle.std.specs.Prelude.{◌≡◌, ℕ, ◌+◌, ◌==◌, Bool, not, List, length}
 use Rattle.dnw_zone_file.specs.Places.{place_from}
 
 -- No line feed is there: a place after the octets is in the same line.
@@ -16,3 +16,6 @@ abbrev pub IsInLineUpTo : List ℕ → List ℕ → Type 0
 IsInLineUpTo left text =
     (line column len : ℕ) → len + length left ≡ length text
     → place_from (record { line = line; column = column }) text ≡ place_from (record { line = line; column = column + len }) left
+
+abbrev pub is_no_feed : ℕ → Bool
+is_no_feed c = not (c == 10)
