@@ -177,7 +177,10 @@ fn own_field(kind: Kind, octets: &[u8]) -> Option<&[u8]>
     ensures none { IfNone result (HasNoField kind octets.now) }
 {
     let Some(size) = plain_size(kind, octets) else {
-        return checked_field(kind, octets);
+        let Some(size) = checked_size(kind, octets) else {
+            return None;
+        };
+        return Some(&octets[..size]);
     };
     if octets.len() < size {
         return None;
@@ -214,18 +217,19 @@ fn counted_size(octets: &[u8]) -> usize
     }
 }
 
-/// Returns the octets of the field of this kind, whose octets are checked, that the octets begin with.
+/// Returns how many octets the field of this kind takes, whose octets are checked, that the octets begin with.
 #[inline(never)]
-fn checked_field(kind: Kind, octets: &[u8]) -> Option<&[u8]>
+fn checked_size(kind: Kind, octets: &[u8]) -> Option<usize>
     requires { IsNoName kind }
-    ensures some { IfSome result (λ own. HasField kind octets.now own.now) }
+    ensures inside { IfSome result (λ size. size ≤ length octets.now) }
+    ensures some { IfSome result (λ size. HasField kind octets.now (take size octets.now)) }
     ensures none { IfNone result (HasNoField kind octets.now) }
 {
     let mut reader = BinDecoder::new(octets);
     let Ok(_) = Field::read(kind, &mut reader) else {
         return None;
     };
-    Some(&octets[..reader.index()])
+    Some(reader.index())
 }
 
 /// Returns the labels of the name whose wire form the octets begin with, or `None` if they begin with none (RFC 1035, section 3.1).

@@ -1,7 +1,7 @@
 use Rattle.std.proofs.Common.{subst, sym, take}
 use Rattle.dnw_message_writer.specs.Inside.Splitting.{HasField}
 use Rattle.dnw_message_writer.proofs.Splitting.{has_own}
-use Rattle.dnw_message_writer.proofs.data.checked_field.Goals as goal
+use Rattle.dnw_message_writer.proofs.data.checked_size.Goals as goal
 
 pub returns-clause-some : goal.returns-clause-some
 returns-clause-some c =
