@@ -5,6 +5,7 @@ ghost use Rattle.dnw_message_writer.specs.Edns.{AddsOpt, AddsOptItem, FailsToAdd
 ghost use Rattle.dnw_message_writer.specs.Listed.{data_form, data_past};
 ghost use Rattle.dnw_message_writer.specs.States.{AddsItem, FailsToAdd, released, room_of};
 ghost use Rattle.dnw_message_writer.specs.declared.section.Section.TheVariants as Sections;
+ghost use Rattle.dnw_message_writer.specs.declared.section.WriteError.TheVariants.{CutOption};
 
 use crate::pieces::Piece;
 use crate::section::{Section, WriteError};
@@ -55,8 +56,8 @@ impl WriterState {
         ensures err { IfErr result (FailsToAddOpt edns.now block (released held self.old) message.old) }
         ensures same { OnErr result ((self.new ≡ self.old) × (take self.old.end message.new ≡ take self.old.end message.old)) }
     {
-        if !are_options(edns.options) {
-            return Err(WriteError::CutOption);
+        if let Err(error) = check_options(edns.options) {
+            return Err(error);
         }
         let reserved = self.reserved;
         self.give_back(held);
@@ -146,6 +147,17 @@ impl WriterState {
         }
         Some(size)
     }
+}
+
+/// Fails if octets are not options, up to their end.
+fn check_options(octets: &[u8]) -> Result<(), WriteError>
+    ensures ok { OnOk result (HasOptions octets.now) }
+    ensures err { IfErr result (λ error. (HasOptions octets.now → ⊥) × (error ≡ CutOption)) }
+{
+    if are_options(octets) {
+        return Ok(());
+    }
+    Err(WriteError::CutOption)
 }
 
 /// Returns `true` if octets are options, up to their end (RFC 6891, section 6.1.2).
