@@ -95,7 +95,7 @@ class _File:
         return ZoneError(reason, entry.offset, self.name, entry.line, entry.column, _shown(text))
 
     def identity(self) -> Optional[Tuple[int, int]]:
-        """Returns what tells the file from others, if it is one of the system's."""
+        """Returns what identifies the file, if it is one of the system's."""
         try:
             status = os.fstat(self.stream.fileno())
         except (OSError, io.UnsupportedOperation):

@@ -1,4 +1,4 @@
--- Types and their codes come back.
+-- Types and their codes round-trip.
 use Rattle.std.proofs.Common.{◌≡◌, Bool, true, false, refl, sym, ap, ◌∙◌}
 use Rattle.dnw_base.specs.declared.record_type.RecordType.{RecordType}
 use Rattle.dnw_base.specs.declared.record_type.RecordType.TheVariants.{Unknown}
@@ -18,7 +18,7 @@ holds : (record_type : RecordType) → is_unknown record_type ≡ true → recor
 holds (Unknown code) is = refl
 holds record_type is = cc
 
--- a type with the code of an `Unknown` that comes back has no name
+-- a type with the code of an `Unknown` that round-trips has no name
 unnamed : (record_type : RecordType) (unknown : Bool) → is_unknown record_type ≡ unknown → type_of_code (type_code record_type) ≡ Unknown (type_code record_type)
     → is_unknown record_type ≡ true
 unnamed record_type true is back = is

@@ -1,4 +1,4 @@
--- Each field that is read from octets comes back.
+-- Each field that is read from octets round-trips.
 use Rattle.std.proofs.Common.{◌≡◌, ℕ, zero, suc, ◌+◌, ◌-◌, ◌≤◌, List, [], ◌∷◌, ◌++◌, length, drop, sym, ap, ◌∙◌, subst, arith, length-drop}
 use Rattle.std.specs.Prelude.{max, Option}
 use Rattle.std.specs.Int.{w16, w32, w64, from_be_bytes, to_be_bytes}
@@ -48,7 +48,7 @@ labels_fit h (zero_octet w g) = tt
 labels_fit {b} {p} h (label c w g one most fit r) = (take_fit _ (drop (p + 1) b) (drop_fit (p + 1) b h), labels_fit h r)
 labels_fit h (pointer high low w g least g2 prior r) = labels_fit h r
 
--- ---- each field comes back
+-- ---- each field round-trips
 
 some : (n : ℕ) → 1 ≤ max 1 n
 some zero = omega arith

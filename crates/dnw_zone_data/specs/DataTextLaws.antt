@@ -62,7 +62,7 @@ FieldComesBack kind value =
 abbrev pub IsReadType : RecordType → Type 0
 IsReadType kind = (code_of kind < 65536) × (type_of_code (code_of kind) ≡ kind)
 
--- Numbers, times, types and IPv4 addresses come back.
+-- Numbers, times, types and IPv4 addresses round-trip.
 abbrev pub NumbersComeBack : Type 0
 NumbersComeBack =
     ((n : ℕ) → n ≤ max_u8 → FieldComesBack U8 (u8 n)) × ((n : ℕ) → n ≤ max_u16 → FieldComesBack U16 (u16 n))
@@ -74,39 +74,39 @@ TypesComeBack = (record_type : RecordType) → IsReadType record_type → FieldC
 abbrev pub FieldAddressesComeBack : Type 0
 FieldAddressesComeBack = (a : Ipv4Addr) → IsIpv4Addr a → FieldComesBack Ipv4 (ipv4 (ipv4_octets a))
 
--- Names come back, whose labels have octets.
+-- Names round-trip, whose labels have octets.
 abbrev pub FieldNamesComeBack : Type 0
 FieldNamesComeBack = (form : NameForm) (labels : List (List ℕ)) → AreLabels labels → AllByRecursion IsOctets labels → FieldComesBack (kinds.Name form) (name labels)
 
--- IPv6 addresses come back, and identifiers of six and eight octets.
+-- IPv6 addresses, EUI-48 and EUI-64 round-trip.
 abbrev pub SegmentsComeBack : Type 0
 SegmentsComeBack = (a : Ipv6Addr) → IsIpv6Addr a → FieldComesBack Ipv6 (ipv6 (ipv6_segments a))
 
 abbrev pub FieldIdentifiersComeBack : Type 0
 FieldIdentifiersComeBack = ((n : ℕ) → n ≤ max_u48 → FieldComesBack U48 (u48 n)) × ((n : ℕ) → n < 2 ^ 64 → FieldComesBack U64 (u64 n))
 
--- Octets come back that have a length octet before them: strings, tags, salts and hashed names.
+-- Octets round-trip that have a length octet before them: strings, tags, salts and hashed names.
 abbrev pub CountedComeBack : Type 0
 CountedComeBack =
     ((own : List ℕ) → IsString own → FieldComesBack (Counted Text) (counted own)) × ((own : List ℕ) → FieldComesBack (Counted Tag) (counted own))
     × ((own : List ℕ) → IsSalt own → FieldComesBack (Counted Hex) (counted own))
     × ((own : List ℕ) → IsHash own → FieldComesBack (Counted Base32Hex) (counted own))
 
--- Octets up to the end come back, in hexadecimal, in base 64 and as text.
+-- Octets up to the end round-trip, in hexadecimal, in base 64 and as text.
 abbrev pub OctetsComeBack : Type 0
 OctetsComeBack =
     ((own : List ℕ) → IsOctets own → FieldComesBack (Octets Hex) (octets own))
     × ((own : List ℕ) → IsOctets own → FieldComesBack (Octets Base64) (octets own))
     × ((own : List ℕ) → IsText own → FieldComesBack (Octets Text) (octets own))
 
--- Lists of types and of service parameters come back that can be read from data. A list of types is printed only if it is written
+-- Lists of types and of service parameters round-trip that can be read from data. A list of types is printed only if it is written
 -- in as few octets as it can be.
 abbrev pub ListsComeBack : Type 0
 ListsComeBack =
     ((own : List ℕ) → IsOctets own → list_fault lists.Types own ≡ None → FieldComesBack (kinds.List lists.Types) (types (items lists.Types own)))
     × ((own : List ℕ) → IsOctets own → list_fault lists.Params own ≡ None → FieldComesBack (kinds.List lists.Params) (params (items lists.Params own)))
 
--- Strings up to the end come back, one or more.
+-- Strings up to the end round-trip, one or more.
 abbrev pub StringsComeBack : Type 0
 StringsComeBack = (own : List ℕ) → IsOctets own → 1 ≤ length own → FieldComesBack (kinds.List lists.Texts) (texts (items lists.Texts own))
 

@@ -3,7 +3,7 @@
 //! The functions do nothing. Each is there for its clauses.
 ghost use Rattle.dnw_zone_data.specs.DataTextLaws.{GenericComesBack, GenericIsParsed, DataComeBack, TextsAreParsed, NumbersComeBack, TypesComeBack, FieldAddressesComeBack, FieldNamesComeBack, SegmentsComeBack, FieldIdentifiersComeBack, CountedComeBack, OctetsComeBack, StringsComeBack, ListsComeBack};
 
-/// Fields of these kinds come back, whatever follows them.
+/// Fields of these kinds round-trip, whatever follows them.
 pub fn fields_come_back()
     ensures numbers { NumbersComeBack }
     ensures types { TypesComeBack }
@@ -17,12 +17,12 @@ pub fn fields_come_back()
     ensures lists { ListsComeBack }
 {}
 
-/// Octets in the form that any data have come back.
+/// Octets in the form that any data have round-trip.
 pub fn generic_comes_back()
     ensures { GenericComesBack }
 {}
 
-/// Whole data come back, of each type and in each form. So what is printed is parsed, unless memory runs out, the data have
+/// Whole data round-trip, of each type and in each form. So what is printed is parsed, unless memory runs out, the data have
 /// more octets than data may have, or they are octets that are no data of their type.
 pub fn data_come_back()
     ensures back { DataComeBack }

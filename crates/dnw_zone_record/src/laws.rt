@@ -7,7 +7,7 @@ ghost use Rattle.dnw_zone_record.specs.RecordTextLaws.{LinesAreUnambiguous, Line
 pub use dnw_zone_data::laws::{data_come_back, fields_come_back, generic_comes_back};
 pub use dnw_zone_values::param_laws::params_come_back;
 
-/// A record that is printed as a line comes back.
+/// A record that is printed as a line round-trips.
 pub fn lines_come_back()
     ensures { LinesComeBack }
 {}

@@ -1,5 +1,5 @@
 -- Service parameters as text (RFC 9460, section 2.1): the key, and its value after a `=` if there is one. A value that does not
--- have the form of its key, or that would be too long in it, is printed as that of any key is, so that it comes back.
+-- have the form of its key, or that would be too long in it, is printed as that of any key is, so that it round-trips.
 use Rattle.std.specs.Prelude.{ℕ, zero, suc, ◌==◌, nat_le, if◌then◌else◌, List, [], ◌∷◌, ◌++◌, length, take, drop, Option, Some, None, option_map, decimal}
 use Rattle.std.specs.Int.{w16, from_be_bytes}
 use Rattle.dnw_zone_values.specs.Octets.{base64_text}

@@ -14,25 +14,25 @@ ghost use Rattle.dnw_zone_values.specs.Tags.{IsTag, IsTagText};
 ghost use Rattle.dnw_zone_values.specs.Base32.{IsHash, base32_text, IsHashText};
 ghost use Rattle.dnw_zone_values.specs.Pairs.{IsIdentifier, pairs_text, IsPairsText};
 
-/// Numbers of up to six octets come back.
+/// Numbers of up to six octets round-trip.
 pub fn numbers_come_back()
     ensures { (max : ℕ) → max ≤ max_u48 → ComesBack (λ n. n ≤ max) decimal (IsNumberText max) }
 {}
 
-/// Octets come back, in hexadecimal and in base 64, and so do salts.
+/// Octets round-trip, in hexadecimal and in base 64, and so do salts.
 pub fn octets_come_back()
     ensures hexadecimal { ComesBack IsOctets hex_text IsHexText }
     ensures base64 { ComesBack IsOctets base64_text IsBase64Text }
     ensures salt { ComesBack IsSalt salt_text IsSaltText }
 {}
 
-/// Addresses come back.
+/// Addresses round-trip.
 pub fn addresses_come_back()
     ensures ipv4 { ComesBack IsIpv4Addr (λ a. ipv4_text (ipv4_octets a)) IsIpv4Text }
     ensures ipv6 { ComesBack IsIpv6Addr (λ a. ipv6_text (ipv6_segments a)) IsIpv6Text }
 {}
 
-/// Character strings come back, and so do texts of up to 65535 octets that are written as they are.
+/// Character strings round-trip, and so do texts of up to 65535 octets that are written as they are.
 pub fn strings_come_back()
     ensures strings { ComesBack IsString string_text IsStringText }
     ensures texts { ComesBack IsText string_text IsLongText }
@@ -44,7 +44,7 @@ pub fn times_come_back()
     ensures printed { (text : List ℕ) (seconds : ℕ) → seconds ≤ max_u32 → IsDateText text seconds → IsTimeText text seconds }
 {}
 
-/// Tags come back, which are printed as they are; hashed names in base 32, and octets as pairs of digits.
+/// Tags round-trip, which are printed as they are; hashed names in base 32, and octets as pairs of digits.
 pub fn identifiers_come_back()
     ensures tags { ComesBack IsTag (λ tag. tag) IsTagText }
     ensures hashes { ComesBack IsHash base32_text IsHashText }

@@ -3,7 +3,7 @@
 //! The function does nothing. It is there for its clause.
 ghost use Rattle.dnw_zone_values.specs.ParamLaws.{ParamsComeBack};
 
-/// Parameters come back.
+/// Parameters round-trip.
 pub fn params_come_back()
     ensures { ParamsComeBack }
 {}

@@ -354,7 +354,7 @@ fn values_may_be_longer_than_a_string(rt: HostRuntime) -> Result<(), Fail> {
 }
 
 /// The types of a bitmap may be in any order, and more than once; BIND and dnspython take them so. A bitmap that could be
-/// shorter has no text of its own (RFC 4034, section 4.1.2), so that its octets come back.
+/// shorter has no text of its own (RFC 4034, section 4.1.2), so that its octets round-trip.
 #[test]
 fn types_are_parsed_in_any_order(rt: HostRuntime) -> Result<(), Fail> {
     let alloc = rt.alloc();

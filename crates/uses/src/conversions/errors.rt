@@ -54,7 +54,7 @@ pub fn own_errors(wire: String, parsing: String) -> (ProtoError, ParseError)
     (ProtoError::from(wire), ParseError::from(parsing))
 }
 
-/// Copies an error of each kind. If one cannot be copied for want of memory, that is the error.
+/// Copies an error of each kind. If memory runs out, that is the error.
 pub fn copies(
     reading: &DecodeError,
     wire: &ProtoError,
