@@ -2,7 +2,7 @@
 
 A response is read with all its records, whose owners, times to live and data are looked at; one that was made is written; one is
 made of names and data and written; and one is made of a query that was read and of records, and written, as a server does. The two
-take turns, round by round, and the median of the rounds is taken.
+take turns, round by round, and the median of the rounds is taken, in processor time, which other programs disturb less.
 """
 
 import pathlib
@@ -132,14 +132,14 @@ def built(octets):
 
 
 def timed(task, value, count):
-    start = time.perf_counter()
+    start = time.process_time()
     for _ in range(count):
         task(value)
-    return (time.perf_counter() - start) / count
+    return (time.process_time() - start) / count
 
 
 def main(files):
-    print(f"microseconds of a response; Python {sys.version.split()[0]}, dnspython {dns.version.version}")
+    print(f"microseconds of processor time of a response; Python {sys.version.split()[0]}, dnspython {dns.version.version}")
     print(f"{'response':10} {'task':8} {'ours':>10} {'dnspython':>16} {'times':>6}")
     for file in files:
         octets = bytes.fromhex(pathlib.Path(file).read_text())
