@@ -291,7 +291,8 @@ static size_t collect(const uint8_t *records, size_t len, const struct model_nam
         model_lower(&next->owner);
         at = record.end;
         bool is_zonemd = next->type == DNW_TYPE_ZONEMD;
-        bool is_its_rrsig = next->type == DNW_TYPE_RRSIG && model_number(octets + next->at, 2) == DNW_TYPE_ZONEMD;
+        /* A record of the class ANY may have no data. */
+        bool is_its_rrsig = next->type == DNW_TYPE_RRSIG && next->len >= 2 && model_number(octets + next->at, 2) == DNW_TYPE_ZONEMD;
         count += !(model_compare(&next->owner, apex) == 0 && (is_zonemd || is_its_rrsig));
     }
     return count;
