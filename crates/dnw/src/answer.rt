@@ -88,8 +88,8 @@ enum Refusal {
         /// What is wrong.
         error: io::Error,
     },
-    /// The system gave no octets by chance.
-    #[error("refused: no id by chance: {0}")]
+    /// The system gave no random octets.
+    #[error("refused: no random id: {0}")]
     Chance(io::Error),
     /// A name was refused, or memory ran out.
     #[error("refused: {0}")]

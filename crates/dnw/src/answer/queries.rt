@@ -26,7 +26,7 @@ const MAX_PAYLOAD: u16 = 1232;
 /// What the words after a name and a type ask for.
 #[derive(Drop)]
 struct Wanted {
-    /// The id, or `None` for one by chance.
+    /// The id, or `None` for a random one.
     id: Option<u16>,
     has_edns: bool,
     dnssec_ok: bool,
@@ -51,7 +51,7 @@ pub(super) fn query<E: RandomSource>(
     let name = Name::from_text(alloc, name, None)?;
     let id = match wanted.id {
         Some(id) => id,
-        None => id_by_chance(env)?,
+        None => random_id(env)?,
     };
     let room = MAX_QUERY.saturating_add(wanted.options.len());
     let mut message = Vec::new(alloc);
@@ -140,7 +140,7 @@ fn push_option(alloc: Global, value: &str, options: &mut Vec<u8>) -> Result<(), 
 }
 
 /// Returns an id that cannot be guessed (RFC 5452, section 9.2).
-fn id_by_chance<E: RandomSource>(env: &E) -> Result<u16, Refusal> {
+fn random_id<E: RandomSource>(env: &E) -> Result<u16, Refusal> {
     let mut octets = [0; 2];
     match env.fill_bytes(&mut octets) {
         Ok(()) => Ok(u16::from_be_bytes(octets)),
