@@ -205,7 +205,7 @@ class Messages(unittest.TestCase):
         self.assertRaises(dnw.DuplicateEdns, Message.build(additionals=[opt], edns=Edns()).to_wire)
         self.assertRaises(dnw.DuplicateEdns, lambda: Message.build(additionals=[opt, opt]).edns)
         self.assertRaises(dnw.OutsideAdditionals, lambda: Message.build(answers=[opt]).edns)
-        self.assertRaises(dnw.OutsideAdditionals, lambda: Message.build(authorities=[opt], edns=Edns()).edns)
+        self.assertRaises(dnw.DuplicateEdns, lambda: Message.build(authorities=[opt], edns=Edns()).edns)
         # one OPT record among the others is that of the message, and TSIG is after it
         key = Record("key.", 0, dnw.TSIG("hmac-sha256.", 1, 300, bytes(32), 7, 0, b""), RecordClass.ANY)
         both = Message.from_wire(Message.build(additionals=[key, opt, *ADDITIONALS]).to_wire(65535))
