@@ -38,7 +38,8 @@ HEADER_SIZE = 12
 LIST_LAST = 0x43
 FIELD_END, FIELD_NAME = 0, 1
 # The types of RFC 1035 whose data are a name: NS, MD, MF, CNAME, MB, MG, MR and PTR.
-OPT, TSIG = 41, 250
+OPT, SIG, TSIG = 41, 24, 250
+LDNS_SECTION_ANSWER = 1
 # The types that have a text of their own here, but not for dnspython: SIG and KEY.
 OTHER_TEXTS = {24, 25}
 
@@ -254,6 +255,16 @@ def records_ldns(packet, section):
     return found
 
 
+def is_read_by_ldns(kind, octets):
+    """Whether it reads a record with these data, and to its end. It does not for each type: it takes the name of NSAP-PTR for a string."""
+    wire = struct.pack("!xHHIH", kind, dns.rdataclass.IN, 0, len(octets)) + octets
+    record, end, size = ctypes.c_void_p(), ctypes.c_size_t(0), ctypes.c_size_t(len(wire))
+    status = LDNS.ldns_wire2rr(ctypes.byref(record), wire, size, ctypes.byref(end), LDNS_SECTION_ANSWER)
+    if status == 0:
+        LDNS.ldns_rr_free(record)
+    return status == 0 and end.value == len(wire)
+
+
 def read_ldns(wire):
     """The same of a message as ldns reads it. It has the OPT record apart."""
     packet = ctypes.c_void_p()
@@ -273,16 +284,17 @@ def read_ldns(wire):
 # ---- random messages
 
 def pool():
-    """Data of many types, from the RFCs' examples in diff/lists/data_texts.txt, that dnspython reads and writes as the same."""
+    """Data of many types, from the RFCs' examples in diff/lists/data_texts.txt, that dnspython reads and writes as the same, and that
+    ldns reads. dnspython reads a TSIG record only as the last of a message, and ours packs a SIG of the additional section as the last."""
     found = {}
     for line in (DIFF / "lists" / "data_texts.txt").read_text().splitlines():
         words = line.split()
-        if not words or words[0] != "data-text" or int(words[1]) == OPT:
+        if not words or words[0] != "data-text" or int(words[1]) in (OPT, SIG, TSIG):
             continue
         kind, octets = int(words[1]), bytes.fromhex(words[2].strip("-"))
         try:
             data = dns.rdata.from_wire(dns.rdataclass.IN, kind, octets, 0, len(octets))
-            if data.to_wire() == octets:
+            if data.to_wire() == octets and is_read_by_ldns(kind, octets):
                 found.setdefault(kind, []).append(data)
         except (dns.exception.DNSException, ValueError):
             pass

@@ -582,6 +582,11 @@ def has_quote(sample):
     return any(b'"' in own for own in names_of(sample))
 
 
+def has_syntax(sample):
+    """An octet that begins a comment, or that opens or closes a list, unless a backslash is before it."""
+    return any(octet in b";()" for octet in sample.data)
+
+
 def needs_escapes(sample):
     return any(not 32 <= octet < 127 or octet in b'"\\' for octet in value_of_last(sample))
 
@@ -626,6 +631,7 @@ DIFFERENCES = [
     (Ldns, ALL, "HIP", is_no_hip, "refuses other octets than those of RFC 8005"),
     (Ldns, [THEIRS], "SVCB HTTPS", has_other_value, "has another text, or none, for a value that has not the form of its key"),
     (Ldns, [THEIRS, OURS_THERE], "SVCB HTTPS", has_odd_protocol, "has no escapes in a list of protocols"),
+    (Ldns, [THEIRS], "SVCB HTTPS", has_syntax, "prints ; ( and ) in a value without a backslash"),
     (Ldns, [THEIRS], "CAA", lambda sample: not sample.fields[1][1][1:].isalnum(), "does not print a tag with other characters than letters and digits"),
     (Ldns, [THEIRS], None, has_quote, "prints a quote in a name without a backslash"),
     (Ldns, [THEIRS], "CERT", has_mnemonic, "prints mnemonics, and ours takes numbers"),
