@@ -1,4 +1,4 @@
-use Rattle.std.proofs.Common.{◌≡◌, ◌==◌, ℕ, true, List, [], ◌∷◌, ◌++◌, length, inl, inr, refl, sym, ap, ◌∙◌, arith, rules}
+use Rattle.std.proofs.Common.{◌≡◌, ◌==◌, ℕ, Bool, true, false, List, [], ◌∷◌, ◌++◌, length, inl, inr, refl, sym, ap, ◌∙◌, arith, rules}
 use Rattle.dnw_record.specs.Records.{RecordValue}
 use Rattle.dnw_c_base.proofs.Exits.{exits}
 use Rattle.dnw_c_base.specs.declared.failure.Failure.TheVariants as why
@@ -10,6 +10,10 @@ no_items : (n : ℕ) (items : List RecordValue) → n ≡ length items → (n ==
 no_items n [] len zero = refl
 no_items n (r ∷ items) len zero = let h = rw len at zero in absurd (search (rules, h))
 
+-- what is so only if all is read is not so while something is left
+some_left : {All : Type 0} {empty : Bool} → (All → empty ≡ true) → empty ≡ false → All → ⊥
+some_left ends left all = cc (ends all, left)
+
 pub records-smaller : goal.records-smaller
 records-smaller c =
     let (onward, within) = takes_on c.records.left c.next_record.new.left c.in_ok-item.ensures.ok in
@@ -20,22 +24,14 @@ records-preserved c = one_more c.in_ok-item.item c.push.new.self.items c.records
 
 pub returns-in_err-item-clause-err : goal.returns-in_err-item-clause-err
 returns-in_err-item-clause-err c =
-    let left : c.records.reader.index ≡ length c.records.reader.bytes → ⊥ = λ same.
-    let empty = c.is_empty.ensures.1 same in
-    let full = c.records-test.true in
-    cc (empty, full) in
     exits (FailsToRead c.args.message.now c.args.start) c.from_residual.result _ c.from_residual.ensures.1
-    (no_more c.in_err-item.field-0.0 c.records.invariant left (inl c.in_err-item.ensures.err))
+    (no_more c.in_err-item.field-0.0 c.records.invariant (some_left c.is_empty.ensures.1 c.records-test.true) (inl c.in_err-item.ensures.err))
 
 pub returns-in_err-push-clause-err : goal.returns-in_err-push-clause-err
 returns-in_err-push-clause-err c =
-    let left : c.records.reader.index ≡ length c.records.reader.bytes → ⊥ = λ same.
-    let empty = c.is_empty.ensures.1 same in
-    let full = c.records-test.true in
-    cc (empty, full) in
     let exit = c.from_residual-in_err-push in
     exits (FailsToRead c.args.message.now c.args.start) exit.result _ exit.ensures.1
-    (no_more why.NoMemory c.records.invariant left (inr refl))
+    (no_more why.NoMemory c.records.invariant (some_left c.is_empty.ensures.1 c.records-test.true) (inr refl))
 
 pub returns-then-is_empty-2-clause-ok : goal.returns-then-is_empty-2-clause-ok
 returns-then-is_empty-2-clause-ok c =
