@@ -395,6 +395,12 @@ static void packs_messages(void)
     EXPECT(packs(BYTES(NO_EDNS "more"), 12, WANTED(NO_EDNS), false));
     /* an OPT record before another becomes the last one, and what was truncated stays so */
     EXPECT(packs(BYTES(TWO_MORE OPT A_OF_A), 512, WANTED(TWO_MORE A_OF_A OPT), true));
+    /* so does a SIG(0), which covers the type 0 (RFC 2931, section 3), and no SIG that covers records */
+#define SIG_OF(type) "\000\000\030\000\377\000\000\000\000\000\024" type "\010\000\000\000\000\000\000\000\000\002\000\000\000\001\000\007\000s"
+#define SIGNED(flags, count) "\000\000" flags "\000\000\000\000\000\000\000\000" count
+    static const char both[] = SIGNED("\200", "\003") SIG_OF("\000\000") SIG_OF("\000\001") A_OF_A;
+    EXPECT(packs(BYTES(both), 512, WANTED(SIGNED("\200", "\003") SIG_OF("\000\001") A_OF_A SIG_OF("\000\000")), false));
+    EXPECT(packs(BYTES(both), 43, WANTED(SIGNED("\202", "\001") SIG_OF("\000\000")), true));
     /* names that are whole in the message are compressed in the copy, and those of an SRV are not */
     EXPECT(packs(BYTES("\000\000\200\000\000\001\000\002\000\000\000\000\001a\000\000\001\000\001"
                        "\001a\000\000\005\000\001" TTL "\000\005\001b\001a\000"

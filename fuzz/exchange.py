@@ -38,7 +38,7 @@ HEADER_SIZE = 12
 LIST_LAST = 0x43
 FIELD_END, FIELD_NAME = 0, 1
 # The types of RFC 1035 whose data are a name: NS, MD, MF, CNAME, MB, MG, MR and PTR.
-OPT, SIG, TSIG = 41, 24, 250
+OPT, TSIG = 41, 250
 LDNS_SECTION_ANSWER = 1
 # The types that have a text of their own here, but not for dnspython: SIG and KEY.
 OTHER_TEXTS = {24, 25}
@@ -285,11 +285,11 @@ def read_ldns(wire):
 
 def pool():
     """Data of many types, from the RFCs' examples in diff/lists/data_texts.txt, that dnspython reads and writes as the same, and that
-    ldns reads. dnspython reads a TSIG record only as the last of a message, and ours packs a SIG of the additional section as the last."""
+    ldns reads. dnspython reads a TSIG record only as the last of a message."""
     found = {}
     for line in (DIFF / "lists" / "data_texts.txt").read_text().splitlines():
         words = line.split()
-        if not words or words[0] != "data-text" or int(words[1]) in (OPT, SIG, TSIG):
+        if not words or words[0] != "data-text" or int(words[1]) in (OPT, TSIG):
             continue
         kind, octets = int(words[1]), bytes.fromhex(words[2].strip("-"))
         try:

@@ -7,10 +7,12 @@ static struct room input, output;
 static uint8_t wanted[65535];
 static uint8_t whole_data[131072];
 
-/* A record that the message has to have: OPT, SIG, TSIG. */
-static bool is_held(const struct dnw_record *record)
+/* A record that the message has to have: OPT, TSIG, or SIG(0), which is a SIG that covers the type 0 (RFC 2931, section 3). */
+static bool is_held(const uint8_t *message, const struct dnw_record *record)
 {
-    return record->record_type == DNW_TYPE_OPT || record->record_type == 24 || record->record_type == 250;
+    if (record->record_type == DNW_TYPE_SIG)
+        return record->data_len >= 2 && model_number(message + record->data_offset, 2) == 0;
+    return record->record_type == DNW_TYPE_OPT || record->record_type == DNW_TYPE_TSIG;
 }
 
 static bool are_of_one_set(const struct model_name *a, const struct dnw_record *x, const struct model_name *b, const struct dnw_record *y)
@@ -46,7 +48,7 @@ static uint32_t add_sets(const uint8_t *message, size_t len, int section, size_t
     *all = true;
     for (uint32_t left = model_number(message + 4 + 2 * section, 2); left > 0; left--, at = record.end) {
         CHECK(model_record(message, len, at, &owner, &record) == DNW_DONE);
-        if (section == 3 && is_held(&record))
+        if (section == 3 && is_held(message, &record))
             continue;
         if (!has_first || !are_of_one_set(&first_owner, &first, &owner, &record)) {
             first_owner = owner, first = record, has_first = true, before = *w;
@@ -76,7 +78,7 @@ static uint32_t write_copy(const uint8_t *message, size_t len, size_t most, cons
     size_t at = read->additionals;
     for (size_t i = 0; i < read->additional_count; i++, at = record.end) {
         CHECK(model_record(message, len, at, &name, &record) == DNW_DONE);
-        if (is_held(&record))
+        if (is_held(message, &record))
             CHECK(dnw_writer_hold(name.len + 10 + record.data_len, &w) == DNW_DONE);
     }
     at = DNW_HEADER_SIZE;
@@ -98,7 +100,7 @@ static uint32_t write_copy(const uint8_t *message, size_t len, size_t most, cons
     at = read->additionals;
     for (size_t i = 0; i < read->additional_count; i++, at = record.end) {
         CHECK(model_record(message, len, at, &name, &record) == DNW_DONE);
-        uint32_t answer = is_held(&record) ? add(message, 3, most, &name, &record, &w) : (uint32_t)DNW_DONE;
+        uint32_t answer = is_held(message, &record) ? add(message, 3, most, &name, &record, &w) : (uint32_t)DNW_DONE;
         if (answer != DNW_DONE)
             return answer;
     }

@@ -323,9 +323,10 @@ struct dnw_packed {
    message, with its own counts, its questions, and its records, in the same sections and order. A set of records that has
    no room is left out whole, and so are the later ones of its section (RFC 2181, section 5). If one is left out, TC is set
    (RFC 2181, section 9), unless the message is a response with answers, and it is of a later section. An OPT record and a
-   signature of the message (SIG, TSIG) among the additional records are never left out, since octets are held back for
-   them, and come last. Names in the data of types of RFC 1035 are compressed too, and others are not (RFC 3597, section
-   4). Octets after the message are ignored.
+   signature of the message among the additional records are never left out, since octets are held back for them, and come
+   last. TSIG signs a message (RFC 8945), and SIG(0), which is a SIG that covers the type 0 (RFC 2931, section 3); other SIG
+   records are as any. Names in the data of types of RFC 1035 are compressed too, and others are not (RFC 3597, section 4).
+   Octets after the message are ignored.
 
    It fails as dnw_message_read with DNW_MAX_POINTERS if the message is not complete, and as dnw_edns_read if its EDNS
    is not valid. If the data of a record are not valid, it fails as dnw_field_next does at the first wrong field. It
@@ -953,7 +954,8 @@ uint32_t dnw_writer_edns(uint8_t *message, size_t message_size, size_t held, uin
                          struct dnw_writer *writer);
 
 /* Adds a record to the Additional section after which no item may follow, as TSIG (RFC 8945, section 5.1) or SIG(0), and
-   gives back `held` octets first. It fails as dnw_writer_record. */
+   gives back `held` octets first. Any type is taken: the caller says which record is the last. It fails as
+   dnw_writer_record. */
 uint32_t dnw_writer_last(uint8_t *message, size_t message_size, size_t held, const uint8_t *owner, size_t owner_len,
                          uint16_t record_type, uint16_t record_class, uint32_t ttl, const uint8_t *data, size_t data_len,
                          struct dnw_writer *writer);
@@ -1089,7 +1091,7 @@ enum dnw_type {
     DNW_TYPE_RT = 21,         /* A host that routes to another (RFC 1183, section 3.3) */
     DNW_TYPE_NSAP = 22,       /* An address in NSAP (RFC 1706, section 5) */
     DNW_TYPE_NSAP_PTR = 23,   /* The name of an NSAP address (RFC 1706, section 6) */
-    DNW_TYPE_SIG = 24,        /* A signature of a message (RFC 2931) */
+    DNW_TYPE_SIG = 24,        /* A signature of records (RFC 2535, section 4.1) or a message (RFC 2931) */
     DNW_TYPE_KEY = 25,        /* A key of a host (RFC 2535 and RFC 2930) */
     DNW_TYPE_PX = 26,         /* Names of X.400 and of mail (RFC 2163, section 4) */
     DNW_TYPE_GPOS = 27,       /* Where a host is, in degrees (RFC 1712) */

@@ -44,8 +44,8 @@ _head_of: Any = struct.Struct("!HH").unpack_from
 _HEADER_SIZE = 12
 # The first octets of the items of a list, by enum dnw_list_item in dns_names_wire.h.
 _ANSWER, _AUTHORITY, _OPTIONAL_AUTHORITY, _GLUE, _OPTIONAL_ADDITIONAL, _LAST = b"\1", b"\2", b"\x82", b"\3", b"\x83", b"\x43"
-# The types of records that are the last of a message, and never left out: OPT, and then TSIG (RFC 8945, section 5.1).
-_LAST_TYPES = (RecordType.OPT, RecordType.TSIG)
+# The type that a SIG covers if it signs a message, and not records: it is a SIG(0) then (RFC 2931, section 3).
+_NO_TYPE = b"\0\0"
 _MOST = 65535
 _MAX_POINTERS = 65536
 _MOST_ITEMS = ROOM_SIZE - _HEADER_SIZE
@@ -384,7 +384,8 @@ class Message:
 
         Sets of records that do not fit are left out whole (RFC 2181, section 5), with the later ones of their section. TC
         is set if one is left out that the receiver needs (section 9): an answer, a record of the Authority section if
-        there are no answers, or glue. The questions and the OPT record are never left out.
+        there are no answers, or glue. The questions and the OPT record are never left out; nor is a TSIG or SIG(0), which
+        comes last.
 
         Raises `BadData` or as `Record.fields` if the data of a record are not valid, as `edns` if there is an OPT record in
         `additionals`, and `MessageTooLong` if the header, the questions and the OPT record have more than `max_size` octets.
@@ -632,14 +633,14 @@ class _Made(Message):
             add(record._message if record._is_whole else record.to_wire())
         others = self._others
         for record in others:
-            if record._type not in _LAST_TYPES:
+            if not _is_last(record):
                 add(_OPTIONAL_ADDITIONAL)
                 add(record._message if record._is_whole else record.to_wire())
         if self._opt is not None:
             add(_LAST)
             add(self._opt)
-        last = [record for record in others if record._type in _LAST_TYPES] if others else []
-        for record in sorted(last, key=_type_of):
+        last = [record for record in others if _is_last(record)] if others else []
+        for record in sorted(last, key=_is_signature):
             add(_LAST)
             add(record.to_wire())
         items = b"".join(parts)
@@ -664,8 +665,15 @@ class _Made(Message):
         return wire  # type: ignore[no-any-return]
 
 
-def _type_of(record: Record) -> int:
-    return record._type
+def _is_last(record: Record) -> bool:
+    """Returns whether a record is one of the last of a message, which are never left out: OPT, and then a signature."""
+    return record._type == RecordType.OPT or _is_signature(record)
+
+
+def _is_signature(record: Record) -> bool:
+    """Returns whether a record is the signature of a message: TSIG (RFC 8945, section 5.1) or SIG(0)."""
+    kind = record._type
+    return kind == RecordType.TSIG or (kind == RecordType.SIG and record.raw_data[:2] == _NO_TYPE)
 
 
 def _parts_of(table: Table) -> _Parts:

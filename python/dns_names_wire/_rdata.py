@@ -269,7 +269,7 @@ class RRSIG(Data, code=46):
 
 
 class SIG(RRSIG, code=24):
-    """A signature of a message (RFC 2931)."""
+    """A signature of records (RFC 2535, section 4.1) or, if it covers the type 0, of a message (RFC 2931)."""
 
 
 @dataclass(frozen=True)

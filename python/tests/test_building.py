@@ -211,8 +211,14 @@ class Messages(unittest.TestCase):
         both = Message.from_wire(Message.build(additionals=[key, opt, *ADDITIONALS]).to_wire(65535))
         self.assertEqual([record.record_type for record in both.additionals], [RecordType.A, RecordType.OPT, RecordType.TSIG])
         self.assertEqual(both.edns, Edns(512))
-        one = Message.from_wire(Message.build(additionals=[*ADDITIONALS, key]).to_wire(12 + len(key.to_wire())))
-        self.assertEqual((one.additionals, one.header.truncation), ((key,), False))
+        # so is SIG(0), which covers the type 0 (RFC 2931, section 3), and no SIG that covers records
+        signed = Record(".", 0, dnw.SIG(0, 8, 0, 0, 2, 1, 7, "a.", bytes(64)), RecordClass.ANY)
+        other = Record(".", 0, dnw.SIG(1, 8, 0, 0, 2, 1, 7, "a.", bytes(64)))
+        three = Message.from_wire(Message.build(additionals=[signed, other, opt]).to_wire(65535))
+        self.assertEqual(three.additionals, (other, Record(".", 0, dnw.Unknown(41, b""), 512), signed))
+        for last in (key, signed):
+            one = Message.from_wire(Message.build(additionals=[*ADDITIONALS, other, last]).to_wire(12 + len(last.to_wire())))
+            self.assertEqual((one.additionals, one.header.truncation), ((last,), False))
 
 
 class Records(unittest.TestCase):

@@ -100,7 +100,7 @@ constants! {
         NSAP = 22,
         /// The name of an NSAP address (RFC 1706, section 6).
         NSAP_PTR = 23,
-        /// A signature of a message (RFC 2931).
+        /// A signature of records (RFC 2535, section 4.1) or of a message (RFC 2931).
         SIG = 24,
         /// A key of a host (RFC 2535 and RFC 2930).
         KEY = 25,

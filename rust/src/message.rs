@@ -247,7 +247,8 @@ impl<'a> Message<'a> {
     /// Returns the message written again: compressed, and in at most `max_size` octets. A set of records that has no room
     /// is left out whole, and so are the later ones of its section (RFC 2181, section 5). If one is left out, TC is set
     /// (RFC 2181, section 9), unless it only goes with the answers of a response. The OPT record and a signature of the
-    /// message (SIG, TSIG) are never left out, and come last.
+    /// message are never left out, and come last: TSIG, or SIG(0), which is a SIG that covers the type 0 (RFC 2931,
+    /// section 3).
     ///
     /// # Errors
     ///

@@ -1,5 +1,5 @@
 -- Records of a list that are added in turn.
-use Rattle.std.proofs.Common.{◌≡◌, ◌⊎◌, ℕ, ◌+◌, ◌≤◌, List, [], ◌∷◌, ◌++◌, drop, length, take, refl, sym, ap, ◌∙◌, subst, inl, inr, arith}
+use Rattle.std.proofs.Common.{◌≡◌, ◌⊎◌, ℕ, ◌≤◌, List, [], ◌∷◌, ◌++◌, drop, length, take, refl, sym, ap, ◌∙◌, subst, inl, inr, arith}
 use Rattle.dnw_message_writer.specs.Inside.Turns.{KeptCount}
 use Rattle.dnw_message_writer.specs.Items.{ItemForm}
 use Rattle.dnw_message_writer.specs.Listed.{HasListed, ListsThen, data_form, first_listed, listed_size}

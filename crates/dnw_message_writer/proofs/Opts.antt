@@ -1,5 +1,5 @@
 -- OPT records, whose data are any octets.
-use Rattle.std.proofs.Common.{◌≡◌, ◌==◌, ◌||◌, false, replicate, get_or, Result, Ok, Err, OnOk, IfErr, Some, ◌<◌, arith, ℕ, ◌+◌, List, [], ◌∷◌, ◌++◌, length, take, inl, inr, refl, sym, ap, subst}
+use Rattle.std.proofs.Common.{◌≡◌, ◌==◌, ◌||◌, false, replicate, get_or, Result, Ok, Err, OnOk, IfErr, Some, ◌<◌, arith, ℕ, List, [], ◌∷◌, ◌++◌, length, take, inl, inr, refl, sym, ap, subst}
 use Rattle.std.specs.Int.{w16, to_be_bytes}
 use Rattle.std.specs.List.{flat_map}
 use Rattle.std.proofs.lemmas.Bool.{cases_Bool}
@@ -24,7 +24,7 @@ pub adds_as : (s : Section) (form other : ItemForm) (w : WriterState) (old : Lis
 adds_as s form other w old v new same f (octets, hints, is, limit, fits, new_is, after_is) =
     (octets, hints, f (take w.end old) w.owner w.hints octets hints is, rw same at limit, fits, new_is, rw same at after_is)
 
-pub fails_as : (s : Section) (past other : ItemPast) (w : WriterState) (m : List ℕ) (e : WriteError) → past.of_opt ≡ other.of_opt
+pub fails_as : (s : Section) (past other : ItemPast) (w : WriterState) (m : List ℕ) (e : WriteError) → past.is_opt ≡ other.is_opt
     → ((limit : ℕ) (b : List ℕ) (near : ℕ) (hints : List ℕ) → past.goes limit b near hints → other.goes limit b near hints)
     → FailsToAdd s past w m e → FailsToAdd s other w m e
 fails_as s past other w m e same f (inl no_limit) = inl (rw same at no_limit)

@@ -62,7 +62,7 @@ no_room_left s opt w m (inr (inr (inr (whole, order, single, less, is)))) = less
 no_room : (s : Section) (past : ItemPast) (w : WriterState) (m : List ℕ) (whole : ℕ)
     → (w.end + whole ≤ room_of w m → past.goes (room_of w m) (take w.end m) w.owner w.hints → ⊥)
     → FailsToAdd s past w m NoRoom → room_of w m < w.end + whole
-no_room s past w m whole fits (inl none) = omega (arith, no_room_left s past.of_opt w m none)
+no_room s past w m whole fits (inl none) = omega (arith, no_room_left s past.is_opt w m none)
 no_room s past w m whole fits (inr (limit, goes, is)) =
     elim (le_or_lt (w.end + whole) (room_of w m)) [ inl room ↦ absurd (fits room goes) | inr less ↦ less ]
 

@@ -35,6 +35,7 @@ RecordsAreAdded = (slot : List (List ℕ) → ℕ) (id flags : ℕ) (c : AddedIt
     → AddsItem s (record_form slot r.owner r.record_type r.class r.ttl r.pieces) w old v new
     → HoldsItems id flags (with_records s (r ∷ []) c) v new
 
+-- how a record is written whose data are given as octets, with every name in its wire form
 abbrev pub given_form : (List (List ℕ) → ℕ) → AddedRecord → List ℕ → ItemForm
 given_form slot r given = record {
   is_opt = r.record_type == opt_code;

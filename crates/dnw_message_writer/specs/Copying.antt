@@ -1,11 +1,11 @@
 -- Records and messages that were read, written again (RFC 2181, sections 5 and 9; RFC 6891, section 6.1.1).
-use Rattle.std.specs.Prelude.{◌≡◌, ◌≢◌, ℕ, ◌+◌, ◌/◌, ◌<◌, ◌≤◌, ◌^◌, ◌==◌, ◌&&◌, ◌||◌, ◌⊎◌, not, min, if◌then◌else◌, Bool, true, false, List, [], ◌∷◌, ◌++◌, filter, length, take}
+use Rattle.std.specs.Prelude.{◌≡◌, ◌≢◌, ℕ, ◌+◌, ◌/◌, ◌<◌, ◌≤◌, ◌^◌, ◌==◌, ◌&&◌, ◌||◌, ◌⊎◌, nat_le, not, min, if◌then◌else◌, Bool, true, false, List, [], ◌∷◌, ◌++◌, filter, length, take}
 use Rattle.std.specs.List.{AllByRecursion}
 use Rattle.dnw_base.specs.DnsClasses.{class_code}
 use Rattle.dnw_base.specs.Names.{AreLabels, encoded_size, lower}
 use Rattle.dnw_base.specs.RecordTypes.{type_code}
 use Rattle.dnw_record.specs.DataCopies.{Copies, FailsToCopy, data_start, record_kinds}
-use Rattle.dnw_record.specs.Records.{RecordValue}
+use Rattle.dnw_record.specs.Records.{RecordValue, data_octets}
 use Rattle.dnw_record.specs.declared.rdata.RDataError.TheVariants.{Field}
 use Rattle.dnw_message_read.specs.Headers.{flags_of}
 use Rattle.dnw_message_read.specs.Edns.{FailsEdns}
@@ -14,6 +14,7 @@ use Rattle.dnw_message_read.specs.declared.edns.EdnsError.{EdnsError}
 use Rattle.dnw_message_writer.specs.Hints.{slot_of}
 use Rattle.dnw_message_writer.specs.Items.{IsQuestion, ItemForm, ItemPast, opt_code, question_past}
 use Rattle.dnw_message_writer.specs.Listed.{data_form, data_past}
+use Rattle.dnw_message_writer.specs.Replies.{field_at}
 use Rattle.dnw_message_writer.specs.Sets.{AddsSet, cut_off}
 use Rattle.dnw_message_writer.specs.Standing.{first_item}
 use Rattle.dnw_message_writer.specs.States.{BeginsMessage, FailsToAdd}
@@ -43,7 +44,7 @@ copied_form x = record {
 
 abbrev pub copied_past : RecordValue → ItemPast
 copied_past x = record {
-  of_opt = type_code x.record_type == opt_code;
+  is_opt = type_code x.record_type == opt_code;
   goes = λ limit b near hints.
       (own : List ℕ) × Copies (record_kinds x) (data_start x) own
       × (data_past x.owner (type_code x.record_type) (class_code x.class) x.ttl own).goes limit b near hints;
@@ -118,9 +119,24 @@ pub data FailsSets (s : Section) (e : CopyError) : List RecordValue → WriterSt
 
 -- ---- messages
 
--- A record that a message has to have, after its other records: OPT (41), or a signature of the message, SIG (24) or TSIG (250).
+-- the codes of the types SIG (RFC 2535, section 4.1) and TSIG (RFC 8945, section 4.2)
+abbrev pub sig_code : ℕ
+sig_code = 24
+
+abbrev pub tsig_code : ℕ
+tsig_code = 250
+
+-- The data of a SIG begin with the type that it covers. If that is 0, the SIG covers no records: it is a SIG(0) (RFC 2931, section 3).
+abbrev pub covers_no_type : List ℕ → Bool
+covers_no_type octets = nat_le 2 (length octets) && (field_at octets 0 == 0)
+
+-- a signature of a message: TSIG, or SIG(0)
+abbrev pub signs_message : RecordValue → Bool
+signs_message x = (type_code x.record_type == tsig_code) || ((type_code x.record_type == sig_code) && covers_no_type (data_octets x))
+
+-- A record that a message has to have, after its other records: OPT, or a signature of the message.
 abbrev pub is_held : RecordValue → Bool
-is_held x = (type_code x.record_type == opt_code) || (type_code x.record_type == 24) || (type_code x.record_type == 250)
+is_held x = (type_code x.record_type == opt_code) || signs_message x
 
 abbrev pub held_in : List RecordValue → List RecordValue
 held_in xs = filter is_held xs

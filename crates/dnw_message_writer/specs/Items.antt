@@ -70,7 +70,7 @@ pub record ItemForm : Type 1 where
 
 -- When it goes past a limit.
 pub record ItemPast : Type 1 where
-  pub of_opt : Bool
+  pub is_opt : Bool
   pub goes : ℕ → List ℕ → ℕ → List ℕ → Type 0
 
 -- the code of the type OPT (RFC 6891, section 6.1.1)
@@ -85,7 +85,7 @@ module _ (slot : List (List ℕ) → ℕ) where
   }
 
   abbrev pub question_past : List (List ℕ) → ItemPast
-  question_past name = record { of_opt = false; goes = λ limit b near hints. QuestionGoesPast slot limit b near hints name }
+  question_past name = record { is_opt = false; goes = λ limit b near hints. QuestionGoesPast slot limit b near hints name }
 
   abbrev pub record_form : List (List ℕ) → ℕ → ℕ → ℕ → List Piece → ItemForm
   record_form owner record_type class ttl pieces = record {
@@ -95,6 +95,6 @@ module _ (slot : List (List ℕ) → ℕ) where
 
   abbrev pub record_past : List (List ℕ) → ℕ → ℕ → ℕ → List Piece → ItemPast
   record_past owner record_type class ttl pieces = record {
-    of_opt = record_type == opt_code;
+    is_opt = record_type == opt_code;
     goes = λ limit b near hints. RecordGoesPast slot limit b near hints owner (fields_of_record record_type class ttl) pieces;
   }

@@ -48,7 +48,7 @@ module _ (owner : List (List ℕ)) (record_type class ttl : ℕ) where
 
   abbrev pub data_past : List ℕ → ItemPast
   data_past d = record {
-    of_opt = record_type == opt_code;
+    is_opt = record_type == opt_code;
     goes = λ limit b near hints.
         (xs : List Piece) × AreOfData (fields_of class record_type d) d xs
         × RecordGoesPast slot_of limit b near hints owner (fields_of_record record_type class ttl) xs;

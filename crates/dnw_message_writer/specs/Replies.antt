@@ -26,7 +26,7 @@ use Rattle.dnw_message_writer.specs.declared.state.WriterState.{WriterState}
 abbrev pub IsRequest : List ℕ → Type 0
 IsRequest octets = (first_item ≤ length octets) × (slice_index octets 2 < 128)
 
--- the number that two octets of a header are
+-- the number that two octets are
 abbrev pub field_at : List ℕ → ℕ → ℕ
 field_at octets p = from_be_bytes w16 (slice_index octets p ∷ slice_index octets (p + 1) ∷ [])
 

@@ -83,8 +83,8 @@ AddsItem s form w old after new =
 -- It is not: no item may follow, or this one goes past the limit.
 abbrev pub FailsToAdd : Section → ItemPast → WriterState → List ℕ → WriteError → Type 0
 FailsToAdd s past w m e =
-    FailsToTakeLimit s past.of_opt w m e
-    ⊎ (IsLimit s past.of_opt w m (room_of w m) × past.goes (room_of w m) (take w.end m) w.owner w.hints × (e ≡ NoRoom))
+    FailsToTakeLimit s past.is_opt w m e
+    ⊎ (IsLimit s past.is_opt w m (room_of w m) × past.goes (room_of w m) (take w.end m) w.owner w.hints × (e ≡ NoRoom))
 
 -- the state that holds back so many octets fewer
 abbrev pub released : ℕ → WriterState → WriterState

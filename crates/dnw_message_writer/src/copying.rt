@@ -4,7 +4,7 @@ ghost use Rattle.dnw_base.specs.Names.{AreLabels, lower};
 ghost use Rattle.dnw_data.specs.Table.{fields_of};
 ghost use Rattle.dnw_record.specs.DataPieces.{IsData};
 ghost use Rattle.dnw_message_read.specs.Headers.{flags_of};
-ghost use Rattle.dnw_message_writer.specs.Copying.{AreOfOneSet, CopiesHeld, CopiesMessage, CopiesQuestions, CopiesSections, CopiesSets, FailsHeld, FailsQuestions, FailsSections, FailsSets, FailsToAddCopy, FailsToAddQuery, FailsToCopyMessage, StopsAmong, StopsInSet, copied_form, held_from, is_answer, is_held, is_missing, own_octets, query_form, sets_of};
+ghost use Rattle.dnw_message_writer.specs.Copying.{AreOfOneSet, CopiesHeld, CopiesMessage, CopiesQuestions, CopiesSections, CopiesSets, FailsHeld, FailsQuestions, FailsSections, FailsSets, FailsToAddCopy, FailsToAddQuery, FailsToCopyMessage, StopsAmong, StopsInSet, copied_form, covers_no_type, held_from, is_answer, is_held, is_missing, own_octets, query_form, sets_of, signs_message};
 ghost use Rattle.dnw_message_writer.specs.Inside.CopiedSets.{AddsFirstSet, first_of};
 ghost use Rattle.dnw_message_writer.specs.Inside.Turns.{KeptCount};
 ghost use Rattle.dnw_message_writer.specs.Hints.{slot_of};
@@ -17,6 +17,7 @@ ghost use Rattle.dnw_message_writer.specs.declared.section.Section.TheVariants a
 use crate::data::pieces_of;
 use crate::hints::SLOTS;
 use crate::names::put_at;
+use crate::reply::field_at;
 use crate::section::{Section, WriteError};
 use crate::set::{cut_off, two_at};
 use crate::standing::FIRST_ITEM;
@@ -156,7 +157,7 @@ impl WriterState {
     ///
     /// A set that has no room is left out whole, and so are the later ones of its section. If one is left out, TC is set (RFC 2181,
     /// section 9), unless it only goes with the answers of a response. Octets are held back for the records that the message has to
-    /// have: an `OPT` record, and a signature of the message (`TSIG`, `SIG`). These come last, and are never left out.
+    /// have: an `OPT` record, and a signature of the message, TSIG or SIG(0). These come last, and are never left out.
     ///
     /// It fails with `Edns` if the message breaks a rule of EDNS, as `MessageRef::edns` reports it; with `Data` if the data of a record
     /// are no fields of its class and type; and with `Write` if the header, the questions and the records that it has to have have no
@@ -477,16 +478,31 @@ fn are_same(some: &[u8], others: &[u8]) -> bool
     some == others
 }
 
-/// Returns `true` for a record that a message has to have: what it says by EDNS (RFC 6891), and a signature of the message (RFC 2931;
-/// RFC 8945).
+/// Returns `true` for a record that a message has to have: what it says by EDNS (RFC 6891), and a signature of the message.
 #[inline(always)]
 fn is_held(item: &RecordRef<'_>) -> bool
     ensures { result ≡ is_held item.now }
 {
-    let code = u16::from(item.record_type());
-    code == RecordType::OPT.code()
-        || code == RecordType::SIG.code()
-        || code == RecordType::TSIG.code()
+    item.record_type().code() == RecordType::OPT.code() || signs_message(item)
+}
+
+/// Returns `true` for a signature of a message: TSIG (RFC 8945), or SIG(0), which is a SIG that covers no type (RFC 2931, section 3).
+/// Another SIG covers records, and is one as others.
+#[inline(always)]
+fn signs_message(item: &RecordRef<'_>) -> bool
+    ensures { result ≡ signs_message item.now }
+{
+    let code = item.record_type().code();
+    code == RecordType::TSIG.code()
+        || (code == RecordType::SIG.code() && covers_no_type(item.rdata()))
+}
+
+/// Returns `true` if the type that the data of a SIG cover, which their first two octets are, is 0.
+#[inline(always)]
+fn covers_no_type(octets: &[u8]) -> bool
+    ensures { result ≡ covers_no_type octets.now }
+{
+    octets.len() >= 2 && field_at(octets, 0) == 0
 }
 
 /// Returns how many octets the records have that a message has to have.

@@ -2,6 +2,7 @@
 ghost use Rattle.std.specs.Prelude.{◌≡◌, ◌↔◌, ◌+◌, ◌<◌, ◌≤◌, ◌++◌, [], Some, None, take, IfErr, IfSome, IsTrue, MatchOption, OnErr, OnOk};
 ghost use Rattle.dnw_message_read.specs.Edns.{HasOptions, first_option, option_of};
 ghost use Rattle.dnw_message_writer.specs.Edns.{AddsOpt, AddsOptItem, FailsToAddOpt, FailsToAddOptItem, ttl_of_edns, lacking, padding_size};
+ghost use Rattle.dnw_message_writer.specs.Items.{opt_code};
 ghost use Rattle.dnw_message_writer.specs.Listed.{data_form, data_past};
 ghost use Rattle.dnw_message_writer.specs.States.{AddsItem, FailsToAdd, released, room_of};
 ghost use Rattle.dnw_message_writer.specs.declared.section.Section.TheVariants as Sections;
@@ -56,9 +57,7 @@ impl WriterState {
         ensures err { IfErr result (FailsToAddOpt edns.now block (released held self.old) message.old) }
         ensures same { OnErr result ((self.new ≡ self.old) × (take self.old.end message.new ≡ take self.old.end message.old)) }
     {
-        if let Err(error) = check_options(edns.options) {
-            return Err(error);
-        }
+        check_options(edns.options)?;
         let reserved = self.reserved;
         self.give_back(held);
         let added = self.add_opt(message, edns, block);
@@ -108,8 +107,8 @@ impl WriterState {
         head: &'p [u8],
         zeros: &'p [u8],
     ) -> Result<(), WriteError>
-        ensures ok { OnOk result (AddsItem Sections.Additionals (data_form [] 41 class ttl (options.now ++ (head.now ++ zeros.now))) self.old message.old self.new message.new) }
-        ensures err { IfErr result (FailsToAdd Sections.Additionals (data_past [] 41 class ttl (options.now ++ (head.now ++ zeros.now))) self.old message.old) }
+        ensures ok { OnOk result (AddsItem Sections.Additionals (data_form [] opt_code class ttl (options.now ++ (head.now ++ zeros.now))) self.old message.old self.new message.new) }
+        ensures err { IfErr result (FailsToAdd Sections.Additionals (data_past [] opt_code class ttl (options.now ++ (head.now ++ zeros.now))) self.old message.old) }
         ensures same { OnErr result ((self.new ≡ self.old) × (take self.old.end message.new ≡ take self.old.end message.old)) }
     {
         self.record(

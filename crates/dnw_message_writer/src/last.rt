@@ -1,4 +1,4 @@
-//! Octets that are held back, and a last record (RFC 8945, section 5.1).
+//! Octets that are held back, and a last record (RFC 8945, section 5.1; RFC 2931, section 3).
 ghost use Rattle.std.specs.Prelude.{◌≡◌, ◌+◌, ◌-◌, min, take, OnOk, IfErr, OnErr};
 ghost use Rattle.dnw_message_writer.specs.Hints.{slot_of};
 ghost use Rattle.dnw_message_writer.specs.Items.{record_form, record_past};
@@ -31,7 +31,7 @@ impl WriterState {
     }
 
     /// Adds the last record of a message, to the additional section, or nothing of it. It has so many of the octets that are held
-    /// back, and no item may follow it.
+    /// back, and no item may follow it. Which record is the last, TSIG or SIG(0), is for the caller to say: any type is taken here.
     pub fn last_record(
         &mut self,
         message: &mut [u8],

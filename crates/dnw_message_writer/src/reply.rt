@@ -1,5 +1,5 @@
 //! Replies, as they begin (RFC 1035, section 4.1.1; RFC 6891, section 7; RFC 9619).
-ghost use Rattle.std.specs.Prelude.{◌≡◌, ◌↔◌, ◌≤◌, length, nat_lt, if◌then◌else◌, IfErr, IfOk, IsTrue, OnErr, OnOk};
+ghost use Rattle.std.specs.Prelude.{◌≡◌, ◌+◌, ◌↔◌, ◌≤◌, length, nat_lt, if◌then◌else◌, IfErr, IfOk, IsTrue, OnErr, OnOk};
 ghost use Rattle.dnw_message_read.specs.Edns.{is_opt};
 ghost use Rattle.dnw_message_writer.specs.Inside.Asked.{AsksByOpt, HasAdditionalsAlone};
 ghost use Rattle.dnw_message_writer.specs.Replies.{AsksByEdns, AsksOf, BeginsAsked, FailsToBeginAsked, FailsToReply, IsRequest, BeginsReplyTo, field_at, nothing_asked, reply_code, reply_flags};
@@ -132,9 +132,9 @@ fn is_request(octets: &[u8]) -> bool
 }
 
 /// Returns the number that two octets are.
-fn field_at(octets: &[u8], at: usize) -> u16
-    requires few { at ≤ 10 }
-    requires header { 12 ≤ length octets.now }
+#[inline(always)]
+pub(crate) fn field_at(octets: &[u8], at: usize) -> u16
+    requires { at + 2 ≤ length octets.now }
     ensures { result ≡ field_at octets.now at }
 {
     u16::from_be_bytes([octets[at], octets[at + 1]])

@@ -16,10 +16,8 @@ use crate::section::{Section, WriteError};
 use crate::standing::FIRST_ITEM;
 use crate::whole::{add_question, add_record};
 use dnw_base::limits::MAX_MESSAGE;
+use dnw_base::record_type::RecordType;
 use dnw_name_form::wire_labels::WireLabels;
-
-/// The code of the type `OPT` (RFC 6891, section 6.1.1).
-const OPT: u16 = 41;
 
 /// What a writer knows of the message that it writes into a buffer: plain data without an invariant.
 ///
@@ -127,7 +125,7 @@ impl WriterState {
         ensures err { IfErr result (FailsToAdd section (record_past slot_of owner.entry record_type class ttl pieces.now) self.old message.old) }
         ensures same { OnErr result ((self.new ≡ self.old) × (take self.old.end message.new ≡ take self.old.end message.old)) }
     {
-        let is_opt = record_type == OPT;
+        let is_opt = record_type == RecordType::OPT.code();
         let limit = self.limit_for(message, section, is_opt)?;
         let fields = record_fields(record_type, class, ttl);
         match add_record(

@@ -1,4 +1,4 @@
-use Rattle.std.proofs.Common.{◌+◌, ◌≡◌, ◌++◌, length, slice_index, refl, ap, ◌∙◌, append_assoc, arith, rules}
+use Rattle.std.proofs.Common.{◌+◌, ◌≡◌, ◌++◌, length, refl, ap, ◌∙◌, append_assoc, arith, rules}
 use Rattle.dnw_base.specs.Names.{encoded_size, label_wire, wire}
 use Rattle.dnw_message_writer.proofs.Spelling.{left_after, passed_after, points, size_after, spells}
 use Rattle.dnw_message_writer.specs.Hints.{slot_of, slot_of_form}

@@ -1,4 +1,4 @@
-use Rattle.std.proofs.Common.{◌≡◌, ◌/◌, ◌%◌, ◌^◌, ◌==◌, max, inl, inr, refl, sym, ap, ◌∙◌}
+use Rattle.std.proofs.Common.{◌/◌, ◌%◌, ◌^◌, ◌==◌, max, inl, inr, refl, sym, ap, ◌∙◌}
 use Rattle.std.specs.Int.{bit_at}
 use Rattle.dnw_base.specs.DnsClasses.{class_code}
 use Rattle.dnw_base.specs.Limits.{min_payload}

@@ -1,5 +1,4 @@
-use Rattle.std.proofs.Common.{◌≡◌, ◌∷◌}
-use Rattle.dnw_message_writer.specs.Copying.{AreOfOneSet, sets_of}
+use Rattle.dnw_message_writer.specs.Copying.{sets_of}
 use Rattle.dnw_message_writer.proofs.Passing.{first_stops, not_so, set_begins, set_ends, set_kept, set_on, set_stops}
 use Rattle.dnw_message_writer.proofs.state.WriterState.add_set.Goals as goal
 

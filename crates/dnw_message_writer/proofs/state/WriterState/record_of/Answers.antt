@@ -1,4 +1,4 @@
-use Rattle.std.proofs.Common.{◌≡◌, ◌∙◌, ap, sym}
+use Rattle.std.proofs.Common.{◌≡◌, ◌∙◌, ap}
 use Rattle.dnw_base.specs.DnsClasses.{class_code}
 use Rattle.dnw_base.specs.RecordTypes.{type_code}
 use Rattle.dnw_record.specs.DataCopies.{Copies, data_start, record_kinds}

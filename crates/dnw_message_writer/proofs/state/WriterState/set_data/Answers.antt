@@ -1,4 +1,4 @@
-use Rattle.std.proofs.Common.{◌≡◌, ◌≤◌, length, take, refl, sym, ap, ◌∙◌, arith, rules}
+use Rattle.std.proofs.Common.{◌≡◌, ◌≤◌, length, take, refl, ap, ◌∙◌, arith}
 use Rattle.dnw_message_writer.specs.CompressedNames.{put_at}
 use Rattle.dnw_message_writer.specs.Inside.Turns.{count_octets}
 use Rattle.dnw_message_writer.specs.Sections.{offset_of_count}
