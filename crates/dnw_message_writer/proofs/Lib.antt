@@ -23,6 +23,7 @@ pub mod Spelling
 pub mod Replying
 pub mod Splitting
 pub mod Stands
+pub mod StandsBefore
 pub mod Turning
 pub mod WholeNames
 pub mod Wholes

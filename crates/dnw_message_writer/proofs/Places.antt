@@ -1,5 +1,5 @@
 -- A name that is written is read back, whatever the hints say.
-use Rattle.std.proofs.Common.{◌≡◌, ◌⊎◌, ℕ, suc, ◌+◌, ◌-◌, ◌/◌, ◌%◌, ◌<◌, ◌≤◌, Option, Some, None, List, [], ◌∷◌, ◌++◌, length, take, drop, get_or, slice_index, slice_range, slice_get, sym, ap, ◌∙◌, subst, inl, inr, refl, append_assoc, arith, length-append, length-drop}
+use Rattle.std.proofs.Common.{◌≡◌, ◌⊎◌, ℕ, suc, ◌+◌, ◌-◌, ◌/◌, ◌%◌, ◌<◌, ◌≤◌, Option, Some, None, List, [], ◌∷◌, ◌++◌, length, take, drop, get_or, slice_range, slice_get, sym, ap, ◌∙◌, subst, inl, inr, refl, append_assoc, arith, length-append, length-drop}
 use Rattle.std.proofs.Math.Nat.{div-add-mod'}
 use Rattle.std.specs.List.{AllByRecursion}
 use Rattle.std.proofs.lemmas.List.{drop-drop, drop_at, length-take-le, take_at, take-append-drop}
@@ -48,7 +48,7 @@ label_read b p s e k limit l more ls at is within r =
 
 -- ---- settled octets of a later message
 
-range_length : (b : List ℕ) (p n : ℕ) → p + n ≤ length b → length (slice_range b p (p + n)) ≡ n
+pub range_length : (b : List ℕ) (p n : ℕ) → p + n ≤ length b → length (slice_range b p (p + n)) ≡ n
 range_length b p n inside =
     omega (arith, length-drop p b, length-take-le (p + n - p) (drop p b) (omega (arith, length-drop p b)))
 

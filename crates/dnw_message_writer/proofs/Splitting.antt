@@ -1,14 +1,13 @@
 -- Data that are taken apart, field by field.
-use Rattle.std.proofs.Common.{◌≡◌, ℕ, ◌+◌, ◌-◌, ◌==◌, ◌≤◌, Bool, true, false, None, Some, List, [], ◌∷◌, ◌++◌, length, take, drop, inl, inr, refl, sym, ap, ◌∙◌, subst, append_assoc, arith}
+use Rattle.std.proofs.Common.{◌≡◌, ℕ, ◌+◌, ◌-◌, ◌==◌, ◌<◌, ◌≤◌, Bool, true, false, None, List, [], ◌∷◌, ◌++◌, length, take, drop, inl, inr, refl, sym, ap, ◌∙◌, subst, arith}
 use Rattle.std.specs.Prelude.{◌&&◌, ◌||◌, nat_le, not, slice_index}
 use Rattle.std.specs.List.{flat_map}
-use Rattle.std.proofs.lemmas.Bool.{cases_Bool, leb-true}
-use Rattle.std.proofs.lemmas.List.{append-nil, drop_at, length-append, length-take-le, nil_from_length, take-append-drop, take_at}
+use Rattle.std.proofs.lemmas.Bool.{cases_Bool, eqb-true, leb-true}
+use Rattle.std.proofs.lemmas.List.{drop_at, length-append, length-take-le, take-append-drop, take_at}
 use Rattle.std.proofs.lemmas.Option.{none-some}
 use Rattle.dnw_base.specs.Decoder.{Decoder}
 use Rattle.dnw_base.specs.declared.error.DecodeError.{DecodeError}
 use Rattle.dnw_base.specs.Names.{AreLabels, wire}
-use Rattle.dnw_base.proofs.Wires.{length_wire}
 use Rattle.dnw_data.specs.declared.kind.Kind.{Kind}
 use Rattle.dnw_data.specs.declared.kind.Kind.TheVariants as kinds
 use Rattle.dnw_data.specs.declared.kind.NameForm.{NameForm}
@@ -17,12 +16,12 @@ use Rattle.dnw_data.specs.Fields.{FailsField, TakesField, own_at}
 use Rattle.dnw_data.specs.Table.{Row, a6, a6_fields, fields_elsewhere, fields_in, fields_in_internet, fields_of, fields_of_some, is_internet_type, is_like_internet, may_lack_data, table}
 use Rattle.dnw_data.specs.Values.{FieldValue, own_fault, own_size}
 use Rattle.dnw_name_read.proofs.Takes.{TakesName_unique}
-use Rattle.dnw_record.specs.DataPieces.{ArePiecesOf, DataPiece, HasPieces, IsData, IsPieceOf, name_piece, octets_of, octets_piece, piece_octets}
+use Rattle.dnw_record.specs.DataPieces.{ArePiecesOf, DataPiece, IsData, IsPieceOf, name_piece, octets_of, octets_piece, piece_octets}
 use Rattle.dnw_record.specs.DataCopies.{alone}
 use Rattle.dnw_record.specs.Inside.Copying.{IsNoName}
-use Rattle.dnw_record.proofs.Pieces.{behind, name_again}
-use Rattle.dnw_message_writer.specs.Data.{AreOfData, AreOfFields, StartsNoName, are_to_compress, is_to_compress, names_among, names_to_compress, whole_octets}
-use Rattle.dnw_message_writer.specs.Inside.Splitting.{HasField, HasNoField, IsPlain, most_pieces}
+use Rattle.dnw_record.proofs.Pieces.{name_again}
+use Rattle.dnw_message_writer.specs.Data.{AreOfData, StartsNoName, are_to_compress, is_to_compress, names_among, names_to_compress, whole_octets}
+use Rattle.dnw_message_writer.specs.Inside.Splitting.{HasField, HasNoField, IsPlain, last_compressed, most_pieces}
 use Rattle.dnw_message_writer.specs.declared.pieces.Piece.{Piece}
 
 -- ---- the first field
@@ -273,3 +272,71 @@ few_pieces class code [] = elim (cases_Bool (may_lack_data class code)) [
   | inr must ↦ rw must (few_some class code [])
 ]
 few_pieces class code (octet ∷ octets) = few_some class code (octet ∷ octets)
+
+-- ---- late types
+
+abbrev late : List Row → Bool
+late [] = true
+late (row ∷ rows) = (nat_le row.code last_compressed || not (are_to_compress row.fields)) && late rows
+
+late_in : (rows : List Row) (code : ℕ) → late rows ≡ true → last_compressed < code → are_to_compress (fields_in rows code) ≡ false
+late_in [] code are above = refl
+late_in (row ∷ rows) code are above = elim (cases_Bool (row.code == code)) [
+  | inl here ↦
+      let is : fields_in (row ∷ rows) code ≡ row.fields = rw (here, fields_in) refl in
+      ap are_to_compress is ∙ late_row row rows (omega (arith, eqb-true row.code code here)) are
+  | inr there ↦
+      let is : fields_in (row ∷ rows) code ≡ fields_in rows code = rw (there, fields_in) refl in
+      ap are_to_compress is ∙ late_in rows code (late_rest row rows are) above
+]
+  where
+    late_row : (row : Row) (rows : List Row) → last_compressed < row.code → late (row ∷ rows) ≡ true → are_to_compress row.fields ≡ false
+    late_row row rows above are = elim (cases_Bool (are_to_compress row.fields)) [
+      | inr none ↦ none
+      | inl found ↦ elim (cases_Bool (nat_le row.code last_compressed)) [
+        | inl early ↦ absurd (omega (arith, above, leb-true row.code last_compressed early))
+        | inr other ↦ let wrong : false ≡ true = rw (other, found) at are in absurd cc
+      ]
+    ]
+
+    late_rest : (row : Row) (rows : List Row) → late (row ∷ rows) ≡ true → late rows ≡ true
+    late_rest row rows are = elim (cases_Bool (nat_le row.code last_compressed || not (are_to_compress row.fields))) [
+      | inl early ↦ rw early at are
+      | inr other ↦ let wrong : false ≡ true = rw other at are in absurd cc
+    ]
+
+late_internet : (code : ℕ) (octets : List ℕ) → last_compressed < code → are_to_compress (fields_in_internet code octets) ≡ false
+late_internet code octets above = elim (cases_Bool (code == a6)) [
+  | inl is ↦ rw is (late_a6 (slice_index octets 0))
+  | inr other ↦ rw other (late_in table code refl above)
+]
+  where
+    late_a6 : (prefix : ℕ) → are_to_compress (a6_fields prefix) ≡ false
+    late_a6 prefix = elim (cases_Bool (prefix == 0)) [
+      | inl none ↦ rw none refl
+      | inr some ↦ rw some refl
+    ]
+
+late_elsewhere : (class code : ℕ) → last_compressed < code → are_to_compress (fields_elsewhere class code) ≡ false
+late_elsewhere class code above = elim (cases_Bool (code == 1)) [
+  | inl is ↦ absurd (omega (arith, above, eqb-true code 1 is))
+  | inr other ↦ elim (cases_Bool (class == 3)) [
+    | inl chaos ↦ rw (chaos, other) refl
+    | inr class_is ↦ rw class_is refl
+  ]
+]
+
+late_some : (class code : ℕ) (octets : List ℕ) → last_compressed < code → are_to_compress (fields_of_some class code octets) ≡ false
+late_some class code octets above = elim (cases_Bool (is_like_internet class || not (is_internet_type code))) [
+  | inl like ↦ rw like (late_internet code octets above)
+  | inr other ↦ rw other (late_elsewhere class code above)
+]
+
+-- no name of a type after MX may be compressed
+pub late_types : (class code : ℕ) (octets : List ℕ) → last_compressed < code → are_to_compress (fields_of class code octets) ≡ false
+unfolding fields_of
+late_types class code [] above = elim (cases_Bool (may_lack_data class code)) [
+  | inl may ↦ rw may refl
+  | inr must ↦ rw must (late_some class code [] above)
+]
+late_types class code (octet ∷ octets) above = late_some class code (octet ∷ octets) above

@@ -4,4 +4,5 @@ pub mod CopiedSets
 pub mod Fitting
 pub mod Going
 pub mod Splitting
+pub mod Standing
 pub mod Turns

@@ -4,7 +4,7 @@ ghost use Rattle.dnw_base.specs.Names.{AreLabels, wire};
 ghost use Rattle.dnw_data.specs.Table.{fields_of};
 ghost use Rattle.dnw_data.specs.Values.{counted_size, own_size};
 ghost use Rattle.dnw_message_writer.specs.Data.{AreOfData, StartsNoName, are_to_compress, is_to_compress};
-ghost use Rattle.dnw_message_writer.specs.Inside.Splitting.{HasField, HasNoField, IsPlain, most_pieces};
+ghost use Rattle.dnw_message_writer.specs.Inside.Splitting.{HasField, HasNoField, IsPlain, last_compressed, most_pieces};
 ghost use Rattle.dnw_message_writer.specs.declared.pieces.Piece.{Piece};
 ghost use Rattle.dnw_record.specs.DataPieces.{IsData};
 ghost use Rattle.dnw_record.specs.Inside.Copying.{IsNoName};
@@ -23,6 +23,9 @@ use std::marker::Model;
 
 /// No data have more pieces: those of SOA are two names and octets.
 const MOST_PIECES: usize = 3;
+
+/// The code of MX: no later type has a name that may be compressed (RFC 3597, section 4).
+const LAST_COMPRESSED: u16 = 15;
 
 /// The pieces of the data of a record.
 ///
@@ -79,14 +82,45 @@ pub fn pieces_of(class: u16, record_type: u16, octets: &[u8]) -> Option<Pieces<'
     ensures none { IfNone result (IsData (fields_of class record_type octets.now) octets.now → ⊥) }
 {
     let class = DNSClass::from(class);
-    let record_type = RecordType::from(record_type);
-    let kinds = fields_of(class, record_type, octets);
+    let kinds = fields_of(class, RecordType::from(record_type), octets);
     let mut pieces = Pieces::new();
-    if split(kinds, octets, &mut pieces) {
+    if put_data(record_type, kinds, octets, &mut pieces) {
         Some(pieces)
     } else {
         None
     }
+}
+
+/// Adds the pieces of data of a type, by its code, with fields of these kinds, or returns `false` if the octets are no such data.
+#[inline(always)]
+fn put_data<'a>(record_type: u16, kinds: &[Kind], octets: &'a [u8], pieces: &mut Pieces<'a>) -> bool
+    requires few { length pieces.old + most_pieces kinds.now ≤ 3 }
+    requires late { last_compressed < record_type → are_to_compress kinds.now ≡ false }
+    ensures are { IsTrue result → (xs : List Piece) × (pieces.new ≡ pieces.old ++ xs) × AreOfData kinds.now octets.now xs }
+    ensures none { result ≡ false → IsData kinds.now octets.now → ⊥ }
+{
+    if record_type > LAST_COMPRESSED {
+        return put_whole(kinds, octets, pieces);
+    }
+    split(kinds, octets, pieces)
+}
+
+/// Adds data without a name that may be compressed, as one piece, or returns `false` if the octets are no data with fields of these
+/// kinds.
+#[inline(always)]
+fn put_whole<'a>(kinds: &[Kind], octets: &'a [u8], pieces: &mut Pieces<'a>) -> bool
+    requires few { length pieces.old + most_pieces kinds.now ≤ 3 }
+    requires whole { are_to_compress kinds.now ≡ false }
+    ensures are { IsTrue result → (xs : List Piece) × (pieces.new ≡ pieces.old ++ xs) × AreOfData kinds.now octets.now xs }
+    ensures none { result ≡ false → IsData kinds.now octets.now → ⊥ }
+{
+    if !are_data(kinds, octets) {
+        return false;
+    }
+    if !octets.is_empty() {
+        pieces.push(Piece::Octets(octets));
+    }
+    true
 }
 
 /// Adds the pieces of data with fields of these kinds, or returns `false` if the octets are no such data.
@@ -96,13 +130,7 @@ fn split<'a>(kinds: &[Kind], octets: &'a [u8], pieces: &mut Pieces<'a>) -> bool
     ensures none { result ≡ false → IsData kinds.now octets.now → ⊥ }
 {
     if !are_to_compress(kinds) {
-        if !are_data(kinds, octets) {
-            return false;
-        }
-        if !octets.is_empty() {
-            pieces.push(Piece::Octets(octets));
-        }
-        return true;
+        return put_whole(kinds, octets, pieces);
     }
     let Some((kind, others)) = kinds.split_first() else {
         return false;
@@ -177,9 +205,7 @@ fn own_field(kind: Kind, octets: &[u8]) -> Option<&[u8]>
     ensures none { IfNone result (HasNoField kind octets.now) }
 {
     let Some(size) = plain_size(kind, octets) else {
-        let Some(size) = checked_size(kind, octets) else {
-            return None;
-        };
+        let size = checked_size(kind, octets)?;
         return Some(&octets[..size]);
     };
     if octets.len() < size {

@@ -6,7 +6,7 @@ ghost use Rattle.dnw_message_writer.specs.Hints.{slot_of};
 ghost use Rattle.dnw_message_writer.specs.Standing.{StandsSettled};
 
 use crate::hints::{FORMER, SLOTS, slot_of};
-use crate::standing::{FIRST_ITEM, stands_at};
+use crate::standing::{FIRST_ITEM, stands_at, stands_before};
 use dnw_base::limits::POINTER_BITS;
 use dnw_name_form::wire_labels::WireLabels;
 
@@ -118,7 +118,17 @@ pub(crate) fn is_usable(message: &[u8], gap: usize, hint: u16, labels: WireLabel
     if !may_stand(message, start, labels.as_wire()) {
         return false;
     }
-    start < POINTER_OFFSETS && stands_at(message, gap, start, labels)
+    start < POINTER_OFFSETS && stands(message, gap, start, labels)
+}
+
+/// Returns `true` if labels stand at an offset. Mostly they do before the gap, which takes fewer steps to see.
+#[inline(always)]
+fn stands(message: &[u8], gap: usize, start: usize, labels: WireLabels<'_>) -> bool
+    requires gap { gap ≤ length message.now }
+    requires header { 12 ≤ start }
+    ensures { IsTrue result ↔ StandsSettled message.now gap start labels.entry }
+{
+    stands_before(message, gap, start, labels.clone()) || stands_at(message, gap, start, labels)
 }
 
 /// Returns `false` if other octets than the first two of this wire form show that it does not stand at an offset.

@@ -18,6 +18,10 @@ HasNoField kind octets = (piece : DataPiece) (rest : List ℕ) → octets ≡ pi
 abbrev pub IsPlain : Kind → Type 0
 IsPlain kind = (own : List ℕ) → own_fault kind own ≡ None
 
+-- the code of MX: no later type has a name that may be compressed (RFC 3597, section 4)
+abbrev pub last_compressed : ℕ
+last_compressed = 15
+
 -- no data with fields of these kinds have more pieces
 abbrev pub most_pieces : List Kind → ℕ
 most_pieces [] = 1

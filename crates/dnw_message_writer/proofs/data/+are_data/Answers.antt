@@ -1,4 +1,4 @@
-use Rattle.std.proofs.Common.{length, subst}
+use Rattle.std.proofs.Common.{length}
 use Rattle.std.proofs.lemmas.List.{take_rest}
 use Rattle.dnw_message_writer.proofs.Splitting.{data_first, data_rest}
 use Rattle.dnw_message_writer.proofs.data.+are_data.Goals as goal

@@ -1,30 +1,10 @@
-use Rattle.std.proofs.Common.{◌≡◌, ◌++◌, true, false, ℕ, List, [], ◌∷◌, length, drop, refl, sym, ap, ◌∙◌, subst, append_assoc, arith}
-use Rattle.std.proofs.lemmas.Bool.{eqb-true}
-use Rattle.std.proofs.lemmas.List.{append-nil, nil_from_length, take_rest}
+use Rattle.std.proofs.Common.{◌≡◌, ◌++◌, true, false, ℕ, List, [], ◌∷◌, length, drop, refl, sym, ap, ◌∙◌, subst, append_assoc}
+use Rattle.std.proofs.lemmas.List.{take_rest}
 use Rattle.dnw_record.specs.DataPieces.{IsData}
 use Rattle.dnw_message_writer.specs.Data.{AreOfData, is_to_compress}
 use Rattle.dnw_message_writer.specs.declared.pieces.Piece.TheVariants.{Octets, Name}
-use Rattle.dnw_message_writer.proofs.Splitting.{data_after, data_rest, of_all, of_name, of_own, some_pieces}
+use Rattle.dnw_message_writer.proofs.Splitting.{data_after, data_rest, of_name, of_own}
 use Rattle.dnw_message_writer.proofs.data.+split.Goals as goal
-
-pub push-requires : goal.push-requires
-push-requires t c = omega (arith, c.requires.few, some_pieces c.args.kinds.now)
-
-pub returns-then-not-is_empty-clause-are : goal.returns-then-not-is_empty-clause-are
-returns-then-not-is_empty-clause-are t c = λ _. (
-  _,
-  c.push.ensures,
-  of_all c.args.kinds.now c.args.octets.now _ (sym c.are_to_compress.ensures ∙ c.if-not-are_to_compress.true)
-      (c.are_data.ensures.0 c.if-not-are_data.false) (append-nil c.args.octets.now) (λ at. refl),
-)
-
-pub returns-else-not-is_empty-clause-are : goal.returns-else-not-is_empty-clause-are
-returns-else-not-is_empty-clause-are t c = λ _. (
-  [],
-  sym (append-nil c.args.pieces.now),
-  of_all c.args.kinds.now c.args.octets.now [] (sym c.are_to_compress.ensures ∙ c.if-not-are_to_compress.true)
-      (c.are_data.ensures.0 c.if-not-are_data.false) (sym (nil_from_length c.args.octets.now (eqb-true (length c.args.octets.now) 0 (sym c.is_empty.ensures ∙ c.if-not-is_empty.false)))) (λ at. refl),
-)
 
 pub returns-then-is_to_compress-clause-are : goal.returns-then-is_to_compress-clause-are
 returns-then-is_to_compress-clause-are t c = λ found.
@@ -38,7 +18,7 @@ returns-then-is_to_compress-clause-are t c = λ found.
     let (xs, more_is, of) = more.are found in
     let rest = subst (λ (o : List ℕ). AreOfData others (drop (length o) octets) xs) c.as_wire.ensures.form of in (
       Name ls ∷ xs,
-      more_is ∙ (ap (λ ps. ps ++ xs) c.push-then-is_to_compress.ensures ∙ append_assoc c.args.pieces.now (Name ls ∷ []) xs),
+      more_is ∙ (ap (λ ps. ps ++ xs) c.push.ensures ∙ append_assoc c.args.pieces.now (Name ls ∷ []) xs),
       rw c.in-Some.ensures.cases.0 (of_name kind others octets ls (Name ls) xs is name.0 name.1 refl (λ at. refl) rest),
     )
 
