@@ -1,5 +1,6 @@
 -- How far data and records go, and that parts leave the modes.
-use Rattle.std.proofs.Common.{◌≡◌, ℕ, ◌+◌, ◌-◌, ◌≤◌, Bool, List, [], ◌∷◌, ◌++◌, length, Option, Some, None, Ok, Err, inl, inr, refl, sym, ap, ◌∙◌, subst, ⊎_elim, arith}
+use Rattle.std.proofs.Common.{◌≡◌, ℕ, ◌+◌, ◌-◌, ◌≤◌, Bool, true, List, [], ◌∷◌, ◌++◌, length, Option, Some, None, Ok, Err, inl, inr, refl, sym, ap, ◌∙◌, subst, ⊎_elim, arith}
+use Rattle.std.specs.Result.{is_err}
 use Rattle.std.proofs.lemmas.List.{length-append}
 use Rattle.dnw_base.specs.Decoder.{Decoder}
 use Rattle.dnw_base.specs.Names.{NameValue, wire}
@@ -8,6 +9,7 @@ use Rattle.dnw_write.specs.declared.encoder.modes.NameEncoding.{NameEncoding}
 use Rattle.std.specs.Int.{w16, to_be_bytes}
 use Rattle.dnw_base.specs.declared.error.ProtoError.TheVariants.{MaxBufferSizeExceeded, Memory}
 use Rattle.dnw_write.specs.Encoder.{Encoder, HasRoom, Writes, moved_to, reserved, written}
+use Rattle.dnw_write.specs.Checkpoints.{checkpoint_of, rewound}
 use Rattle.dnw_write.specs.Emitting.{EmitsAt, Outcome}
 use Rattle.dnw_write.specs.EmittedName.{EmitsAs, EmitsName, Share, in_mode}
 use Rattle.dnw_record.specs.Parts.{EmitsSized, EmitsWirePart, EmitsWireParts, Then, WirePart, Write, bytes_part, name_part, text_part}
@@ -97,11 +99,11 @@ sized_on write goes v (Err error) w (inr (room, h)) = let (on, _) = goes (reserv
 pub order_on : (first : Write) (fixed : List ℕ) (last : Write) → WritesOn first → WritesOn last → WritesOn (InOrder first fixed last)
 order_on first fixed last one two = then_on first _ one (then_on (λ v. Writes v fixed) _ (fits_on (fits_bytes fixed)) (sized_on last two))
 
--- the numbers before octets that are written fit their fields
-pub fitting : (Fit : Type 0) (fields : Write) (v : Encoder) (outcome : Outcome) (w : Encoder) → Fit → EmitsWhole (Unit {0}) fields v outcome w
-    → EmitsWhole Fit fields v outcome w
-fitting Fit fields v (Ok tt) w fit h = (fit, h.1)
-fitting Fit fields v (Err error) w fit h = h
+-- a write that failed is undone
+pub undone : (Fit : Type 0) (fields : Write) (v u : Encoder) (outcome : Outcome) (w : Encoder) → is_err outcome ≡ true → fields v outcome u
+    → w ≡ rewound u (checkpoint_of v) → EmitsWhole Fit fields v outcome w
+undone Fit fields v u (Ok tt) w wrong h is = absurd cc
+undone Fit fields v u (Err error) w failed h is = (u, h, is)
 
 -- ---- modes
 

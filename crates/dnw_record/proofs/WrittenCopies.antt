@@ -67,9 +67,9 @@ then_as first one two same v (Ok tt) w (m, f, h) = (m, f, same m (Ok tt) w h)
 then_as first one two same v (Err error) w (inl f) = inl f
 then_as first one two same v (Err error) w (inr (m, f, h)) = inr (m, f, same m (Err error) w h)
 
-whole_as : (Fit : Type 0) (one two : Write) → Fit → Same one two → Same (EmitsWhole (Unit {0}) one) (EmitsWhole Fit two)
-whole_as Fit one two fit same v (Ok tt) w (_, h) = (fit, same v (Ok tt) w h)
-whole_as Fit one two fit same v (Err error) w (u, h, is) = (u, same v (Err error) u h, is)
+whole_as : (Fit : Type 0) (one two : Write) → Same one two → Same (EmitsWhole Fit one) (EmitsWhole Fit two)
+whole_as Fit one two same v (Ok tt) w (fit, h) = (fit, same v (Ok tt) w h)
+whole_as Fit one two same v (Err error) w (u, h, is) = (u, same v (Err error) u h, is)
 
 -- ---- a record that is written from where it is
 
@@ -82,12 +82,11 @@ data_as x octets copied v outcome w h =
     (subst (λ kinds. EmitsPieces kinds (data_start x) v outcome w) (sym same) h)
 
 pub as_copy : (x : RecordValue) → HasFields x → (v : Encoder) (outcome : Outcome) (w : Encoder)
-    → FixedFit x.record_type x.class x.ttl
-    → EmitsWhole (Unit {0})
+    → EmitsWhole (FixedFit x.record_type x.class x.ttl)
     (InOrder (EmitsName (name_of x.owner)) (fixed_octets x.record_type x.class x.ttl) (EmitsPieces (record_kinds x) (data_start x))) v outcome w
     → EmitsCopyOf x v outcome w
-as_copy x (octets, copied) v outcome w fit h =
+as_copy x (octets, copied) v outcome w h =
     let sized = sized_as (EmitsPieces (record_kinds x) (data_start x)) (EmitsRData (copy_with x octets).data) (data_as x octets copied) in
     let fixed : Write = λ e. Writes e (fixed_octets x.record_type x.class x.ttl) in
     let all = then_as (EmitsName (name_of x.owner)) _ _ (then_as fixed _ _ sized) in
-    (copy_with x octets, (refl, refl, refl, refl, copied), whole_as _ _ _ fit all v outcome w h)
+    (copy_with x octets, (refl, refl, refl, refl, copied), whole_as _ _ _ all v outcome w h)

@@ -6,7 +6,7 @@ ghost use Rattle.dnw_record.specs.AnyRecords.{EmitsCopyOf, HasFields};
 ghost use Rattle.dnw_record.specs.AnyRecordFrames.{frame_copy, frame_pieces};
 ghost use Rattle.dnw_record.specs.Inside.Walking.{EmitsPieces};
 
-use crate::emitting::{emit_record, fixed_octets};
+use crate::emitting::emit_record;
 use crate::record::emit_data;
 use crate::record_ref::RecordRef;
 use dnw_base::decoder::BinDecoder;
@@ -65,8 +65,14 @@ impl BinEncodable for CheckedRecord<'_> {
     /// Writes the record as `Record` does. If a field fails, the encoder is put back to where it was.
     fn emit(&self, encoder: &mut BinEncoder<'_>) -> ProtoResult<()> {
         let item = &self.item;
-        let fixed = fixed_octets(item.record_type(), item.class(), item.ttl());
-        emit_record(item.owner(), &fixed, &CheckedData { of: self }, encoder)
+        emit_record(
+            item.owner(),
+            item.record_type(),
+            item.class(),
+            item.ttl(),
+            &CheckedData { of: self },
+            encoder,
+        )
     }
 }
 

@@ -10,21 +10,25 @@ use dnw_base::record_type::RecordType;
 use dnw_write::binary::BinEncodable;
 use dnw_write::encoder::BinEncoder;
 
-/// Writes the owner, the octets of the type, the class and the time to live, and the data after their length. If one of them fails,
-/// the encoder is put back to where it was.
+/// Writes the owner, the type, the class and the time to live, and the data after their length. If one of them fails, the encoder is
+/// put back to where it was.
 pub(crate) fn emit_record<N: BinEncodable, D: BinEncodable>(
     owner: &N,
-    fixed: &[u8; 8],
+    record_type: RecordType,
+    class: DNSClass,
+    ttl: u32,
     rdata: &D,
     encoder: &mut BinEncoder<'_>,
 ) -> ProtoResult<()>
     requires owner { WritesOn (N.emits owner.now) }
     requires rdata { WritesOn (D.emits rdata.now) }
-    ensures writes { EmitsWhole (Unit {0}) (InOrder (N.emits owner.now) fixed.now (D.emits rdata.now)) (value encoder.old) result (value encoder.new) }
+    ensures writes { EmitsWhole (FixedFit record_type class ttl) (InOrder (N.emits owner.now) (fixed_octets record_type class ttl) (D.emits rdata.now))
+        (value encoder.old) result (value encoder.new) }
     ensures lender { lender encoder.new ≡ lender encoder.old }
 {
+    let fixed = fixed_octets(record_type, class, ttl);
     let checkpoint = encoder.checkpoint();
-    let outcome = emit_fields(owner, fixed, rdata, encoder);
+    let outcome = emit_fields(owner, &fixed, rdata, encoder);
     if outcome.is_err() {
         encoder.rewind(checkpoint);
     }
@@ -55,7 +59,7 @@ fn emit_fields<N: BinEncodable, D: BinEncodable>(
 
 /// Returns the type, the class and the time to live, as they are written.
 #[inline(always)]
-pub(crate) fn fixed_octets(record_type: RecordType, class: DNSClass, ttl: u32) -> [u8; 8]
+fn fixed_octets(record_type: RecordType, class: DNSClass, ttl: u32) -> [u8; 8]
     ensures octets { result ≡ fixed_octets record_type class ttl }
     ensures fit { FixedFit record_type class ttl }
 {

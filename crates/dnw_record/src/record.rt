@@ -11,7 +11,7 @@ ghost use Rattle.dnw_record.specs.DataPieces.{DataPiece};
 ghost use Rattle.dnw_record.specs.AnyRecords.{EmitsRData, EmitsAnyRecord, encoding_of, mode_of, name_of};
 ghost use Rattle.dnw_record.specs.AnyRecordFrames.{frame_any_record, frame_rdata};
 
-use crate::emitting::{emit_record, fixed_octets};
+use crate::emitting::emit_record;
 use crate::rdata::{RData, RDataError};
 use crate::record_ref::RecordRef;
 use dnw_base::decoder::BinDecoder;
@@ -81,8 +81,14 @@ impl BinEncodable for Record {
     /// RFC 1035 (RFC 3597, section 4), and in canonical form in lower case (RFC 4034, section 6.2, and RFC 6840, section 5.1).
     fn emit(&self, encoder: &mut BinEncoder<'_>) -> ProtoResult<()> {
         let data = &self.data;
-        let fixed = fixed_octets(data.record_type(), data.class(), self.ttl);
-        emit_record(&self.name, &fixed, data, encoder)
+        emit_record(
+            &self.name,
+            data.record_type(),
+            data.class(),
+            self.ttl,
+            data,
+            encoder,
+        )
     }
 }
 

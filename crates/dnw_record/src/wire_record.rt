@@ -5,7 +5,7 @@ ghost use Rattle.dnw_write.specs.EncoderValue.{value, lender};
 ghost use Rattle.dnw_record.specs.WrittenRecords.{EmitsData, EmitsDataName, EmitsRecord};
 ghost use Rattle.dnw_record.specs.RecordFrames.{frame_data, frame_record};
 
-use crate::emitting::{emit_record, fixed_octets};
+use crate::emitting::emit_record;
 use dnw_base::dns_class::DNSClass;
 use dnw_base::error::ProtoResult;
 use dnw_base::record_type::RecordType;
@@ -67,8 +67,14 @@ impl BinEncodable for WireRecord {
     /// Writes the owner, the type, the class, the time to live, the length and the data. If one of them fails, the encoder
     /// is put back to where it was.
     fn emit(&self, encoder: &mut BinEncoder<'_>) -> ProtoResult<()> {
-        let fixed = fixed_octets(self.record_type, self.class, self.ttl);
-        emit_record(&self.owner, &fixed, &self.rdata, encoder)
+        emit_record(
+            &self.owner,
+            self.record_type,
+            self.class,
+            self.ttl,
+            &self.rdata,
+            encoder,
+        )
     }
 }
 

@@ -14,5 +14,4 @@ emit_record-requires-clause-rdata c = pieces_on (record_kinds c.args.self.now) (
 pub returns-clause-emits : goal.returns-clause-emits
 returns-clause-emits c =
     as_copy c.args.self.now (rw c.self.view_is at c.self.invariant) (value c.args.encoder.now) c.emit_record.result (value c.emit_record.new.encoder)
-    (rw (c.record_type.ensures, c.class.ensures, c.ttl.ensures, c.self.view_is) at c.fixed_octets-fixed.ensures.fit)
-    (rw (c.owner.ensures, c.fixed_octets-fixed.ensures.octets, c.record_type.ensures, c.class.ensures, c.ttl.ensures, c.self.view_is) at c.emit_record.ensures.writes)
+    (rw (c.owner.ensures, c.record_type.ensures, c.class.ensures, c.ttl.ensures, c.self.view_is) at c.emit_record.ensures.writes)
