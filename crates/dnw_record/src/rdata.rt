@@ -173,7 +173,7 @@ impl RData {
         ensures ok { IfOk result (λ r. (r.class ≡ class) × (r.record_type ≡ record_type) × Copies kinds.now reader.entry r.octets) }
         ensures err { IfErr result (FailsToCopy kinds.now reader.entry) }
     {
-        let mut octets = Vec::new(alloc);
+        let mut octets = Vec::with_capacity(alloc, reader.len())?;
         copy_fields(kinds, &mut reader, &mut octets)?;
         Ok(RData {
             class,
