@@ -1,26 +1,15 @@
 //! What the program answers to its words.
 
-mod messages;
-mod names;
-mod queries;
-mod sums;
-mod zones;
-
-use dns_names_wire::data_text::RecordEntryError;
-use dns_names_wire::dnssec::DnssecError;
-use dns_names_wire::message::{EdnsError, MessageError};
-use dns_names_wire::message_writer::WriteError;
-use dns_names_wire::name_text::NameTextError;
-use dns_names_wire::rdata::RDataError;
-use dns_names_wire::zone::CheckError;
-use dns_names_wire::{DecodeError, ProtoError};
-use hex::FromHexError;
-use std::alloc::{AllocError, AllocFailed, Global};
+use dnw_shell_base::Refusal;
+use dnw_shell_messages::messages;
+use dnw_shell_names::names::names;
+use dnw_shell_names::queries::query;
+use dnw_shell_names::sums::{ds_text, key_tag_text, nsec3_text};
+use dnw_shell_zones::{digest, zone};
+use std::io;
 use std::io::{Read, Write};
 use std::random::RandomSource;
 use std::rt::Files;
-use std::{fs, io};
-use thiserror::Error;
 
 /// What `--help` shows.
 const HELP: &str = "\
@@ -71,155 +60,6 @@ Examples: dnw query example.com. MX --dnssec | dnw message -
           (echo 0000 8400 0000 0001 0000 0000; dnw zone FILE --origin NAME --wire | head -n 1) |
               dnw message -";
 
-/// Why there is no answer.
-#[derive(Debug, Drop, Error)]
-enum Refusal {
-    /// The words ask for nothing that the program does.
-    #[error("usage: dnw message | query | name | key-tag | ds | nsec3 | zone-digest | zone WORD.. (dnw --help says which)")]
-    Usage,
-    /// Standard input could not be read.
-    #[error("refused: standard input: {0}")]
-    Input(io::Error),
-    /// A file could not be opened or read.
-    #[error("refused: {file}: {error}")]
-    File {
-        /// The file.
-        file: String,
-        /// What is wrong.
-        error: io::Error,
-    },
-    /// The system gave no random octets.
-    #[error("refused: no random id: {0}")]
-    Chance(io::Error),
-    /// A name was refused, or memory ran out.
-    #[error("refused: {0}")]
-    Proto(ProtoError),
-    /// A text gives no name.
-    #[error("refused: {0}")]
-    Name(NameTextError),
-    /// A message was refused.
-    #[error("refused: {0}")]
-    Message(MessageError),
-    /// The line of a message has something else than hexadecimal digits, two for each octet.
-    #[error("refused: wanted hexadecimal digits, two for each octet")]
-    Digits,
-    /// A stream of messages ends within a length or a message.
-    #[error("refused: wanted {wanted} octets, found {found}")]
-    Cut {
-        /// How many octets the length, or the message, has.
-        wanted: usize,
-        /// How many are left.
-        found: usize,
-    },
-    /// Some of many messages were refused: the text of all, with the lines that say why.
-    #[error("{0}")]
-    Messages(String),
-    /// The options of a query are too many.
-    #[error("refused: the options have more than 32768 octets")]
-    Options,
-    /// An `OPT` record is outside the additional section, or a name or a record could not be read.
-    #[error("refused: {0}")]
-    Decode(DecodeError),
-    /// What the additional section says by EDNS was refused.
-    #[error("refused: Additionals from offset {offset} on: {error}")]
-    Edns {
-        /// The offset at which the additional records begin.
-        offset: usize,
-        /// What is wrong.
-        error: EdnsError,
-    },
-    /// A message has no room for an item.
-    #[error("refused: {0}")]
-    Write(WriteError),
-    /// A text is no record.
-    #[error("refused: {0}")]
-    Entry(RecordEntryError),
-    /// The data of a record are not those of its type.
-    #[error("refused: {0}")]
-    Data(RDataError),
-    /// There is no sum.
-    #[error("refused: {0}")]
-    Sum(DnssecError),
-    /// A zone is not checked.
-    #[error("refused: {0}")]
-    Check(CheckError),
-    /// A zone file has entries that are none: the lines that say where, and why.
-    #[error("{0}")]
-    Zone(String),
-}
-
-impl From<NameTextError> for Refusal {
-    fn from(e: NameTextError) -> Self {
-        Refusal::Name(e)
-    }
-}
-
-impl From<io::Error> for Refusal {
-    fn from(e: io::Error) -> Self {
-        Refusal::Input(e)
-    }
-}
-
-impl From<ProtoError> for Refusal {
-    fn from(e: ProtoError) -> Self {
-        Refusal::Proto(e)
-    }
-}
-
-impl From<MessageError> for Refusal {
-    fn from(e: MessageError) -> Self {
-        Refusal::Message(e)
-    }
-}
-
-impl From<DecodeError> for Refusal {
-    fn from(e: DecodeError) -> Self {
-        Refusal::Decode(e)
-    }
-}
-
-impl From<WriteError> for Refusal {
-    fn from(e: WriteError) -> Self {
-        Refusal::Write(e)
-    }
-}
-
-impl From<RecordEntryError> for Refusal {
-    fn from(e: RecordEntryError) -> Self {
-        Refusal::Entry(e)
-    }
-}
-
-impl From<RDataError> for Refusal {
-    fn from(e: RDataError) -> Self {
-        Refusal::Data(e)
-    }
-}
-
-impl From<DnssecError> for Refusal {
-    fn from(e: DnssecError) -> Self {
-        Refusal::Sum(e)
-    }
-}
-
-impl From<CheckError> for Refusal {
-    fn from(e: CheckError) -> Self {
-        Refusal::Check(e)
-    }
-}
-
-impl<T: Drop> From<AllocFailed<T>> for Refusal {
-    fn from(_: AllocFailed<T>) -> Self {
-        Refusal::Proto(ProtoError::Memory)
-    }
-}
-
-impl From<AllocError> for Refusal {
-    fn from(_: AllocError) -> Self {
-        Refusal::Proto(ProtoError::Memory)
-    }
-}
-
 /// Writes the answer to the words, the program's own name not among them, and returns the exit status: 0 for an
 /// answer, 1 for a refusal, 2 for words that ask for nothing. It fails if the answer cannot be written.
 pub fn answer<E: Files + RandomSource + AllocGlobal, I: Read, W: Write>(
@@ -251,92 +91,28 @@ fn reply<E: Files + RandomSource + AllocGlobal, I: Read>(
     let alloc = env.alloc();
     match words {
         [command, words @ ..] if command.as_str() == "message" => {
-            messages::answer(env, alloc, words, input)
+            messages(env, alloc, words, input)
         }
         [command, name, record_type, words @ ..] if command.as_str() == "query" => {
-            queries::query(env, alloc, name.as_str(), record_type.as_str(), words)
+            query(env, alloc, name.as_str(), record_type.as_str(), words)
         }
-        [command, words @ ..] if command.as_str() == "name" => {
-            names::answer(alloc, words, input)
-        }
-        [command, line] if command.as_str() == "key-tag" => sums::tag(alloc, line.as_str()),
-        [command, line] if command.as_str() == "ds" => sums::ds(alloc, line.as_str()),
+        [command, words @ ..] if command.as_str() == "name" => names(alloc, words, input),
+        [command, line] if command.as_str() == "key-tag" => key_tag_text(alloc, line.as_str()),
+        [command, line] if command.as_str() == "ds" => ds_text(alloc, line.as_str()),
         [command, name, iterations, salt] if command.as_str() == "nsec3" => {
-            sums::nsec3(alloc, name.as_str(), iterations.as_str(), salt.as_str())
+            nsec3_text(alloc, name.as_str(), iterations.as_str(), salt.as_str())
         }
         [command, apex, algorithm, dash]
             if command.as_str() == "zone-digest" && dash.as_str() == "-" => {
-            let mut zone = Vec::new(alloc);
-            input.read_to_end(&mut zone)?;
-            sums::digest(env, alloc, apex.as_str(), algorithm.as_str(), zone)
+            digest(env, alloc, apex.as_str(), algorithm.as_str(), input)
         }
         [command, file, option, origin, options @ ..]
             if command.as_str() == "zone" && option.as_str() == "--origin" => {
-            let wanted = wanted_of(options)?;
-            let zone = contents(env, alloc, file.as_str(), input)?;
-            zones::listing(env, alloc, file.as_str(), origin.as_str(), wanted, zone)
+            zone(env, alloc, file.as_str(), origin.as_str(), options, input)
         }
         [option] if option.as_str() == "--help" || option.as_str() == "-h" => {
             Ok(String::from_str(alloc, HELP)?)
         }
         _ => Err(Refusal::Usage),
     }
-}
-
-/// What the words after the origin of a zone ask for. Each is there at most once, and of `--relative`, `--wire` and `--check` only
-/// one.
-fn wanted_of(options: &[String]) -> Result<zones::Wanted, Refusal> {
-    let mut wanted = zones::Wanted {
-        form: zones::Form::Lines,
-        is_sorted: false,
-    };
-    for option in options {
-        match option.as_str() {
-            "--sort" if !wanted.is_sorted => wanted.is_sorted = true,
-            "--relative" if wanted.form == zones::Form::Lines => {
-                wanted.form = zones::Form::Relative;
-            }
-            "--wire" if wanted.form == zones::Form::Lines => wanted.form = zones::Form::Wire,
-            "--check" if wanted.form == zones::Form::Lines => {
-                wanted.form = zones::Form::Findings;
-            }
-            _ => return Err(Refusal::Usage),
-        }
-    }
-    Ok(wanted)
-}
-
-/// All octets of a file, or of standard input if the file is `-`.
-fn contents<E: Files, I: Read>(
-    env: &E,
-    alloc: Global,
-    file: &str,
-    input: &mut I,
-) -> Result<Vec<u8>, Refusal> {
-    let mut octets = Vec::new(alloc);
-    if file == "-" {
-        input.read_to_end(&mut octets)?;
-        return Ok(octets);
-    }
-    match read_file(env, file, &mut octets) {
-        Ok(()) => Ok(octets),
-        Err(error) => Err(Refusal::File {
-            file: String::from_str(alloc, file)?,
-            error,
-        }),
-    }
-}
-
-/// Appends all octets of a file.
-fn read_file<E: Files>(env: &E, file: &str, octets: &mut Vec<u8>) -> io::Result<()> {
-    fs::open(env, file)?.read_to_end(octets)?;
-    Ok(())
-}
-
-/// Octets in hexadecimal digits of either case.
-fn octets(alloc: Global, text: &str) -> Result<Vec<u8>, Refusal> {
-    hex::decode(alloc, text).map_err(|e| match e {
-        FromHexError::OutOfMemory => Refusal::Proto(ProtoError::Memory),
-        _ => Refusal::Usage,
-    })
 }

@@ -1,8 +1,8 @@
 //! Names: their wire forms and sort keys, reverse names, and canonical order.
 
-use super::Refusal;
 use dns_names_wire::name::Name;
 use dns_names_wire::sort_key::MAX_SORT_KEY_LENGTH;
+use dnw_shell_base::Refusal;
 use std::alloc::Global;
 use std::io::Read;
 use std::net::IpAddr;
@@ -19,11 +19,7 @@ enum Wanted {
 }
 
 /// Returns what the words after the command ask for: a line for each name or address.
-pub(super) fn answer<I: Read>(
-    alloc: Global,
-    words: &[String],
-    input: &mut I,
-) -> Result<String, Refusal> {
+pub fn names<I: Read>(alloc: Global, words: &[String], input: &mut I) -> Result<String, Refusal> {
     match words {
         [option, dash] if option.as_str() == "--sort" && dash.as_str() == "-" => {
             sorted(alloc, input)

@@ -1,25 +1,25 @@
 //! Errors of texts, as compilers show them.
 
-use super::super::Refusal;
 use dns_names_wire::zone::{TextPlace, place_of};
+use dnw_shell_base::Refusal;
 
 /// How many octets of a line are shown on each side of an error, at most.
 const SHOWN: usize = 100;
 
 /// An entry of a file that has an error.
 #[derive(Clone, Copy)]
-pub(super) struct Fault<'a> {
+pub(crate) struct Fault<'a> {
     /// The file, as it is named.
-    pub(super) file: &'a str,
+    pub(crate) file: &'a str,
     /// The rest of the file, which begins with the entry.
-    pub(super) text: &'a [u8],
+    pub(crate) text: &'a [u8],
     /// The place of the entry in the file.
-    pub(super) start: TextPlace,
+    pub(crate) start: TextPlace,
 }
 
 impl Fault<'_> {
     /// Appends the file, the line and the column of an offset of the entry, what is wrong there, and that line with a mark below it.
-    pub(super) fn put(
+    pub(crate) fn put(
         &self,
         offset: usize,
         reason: &str,
@@ -41,7 +41,7 @@ impl Fault<'_> {
 }
 
 /// Returns the place, in a file, of an offset of a text that begins at a place there.
-pub(super) fn moved(start: TextPlace, text: &[u8], offset: usize) -> TextPlace {
+pub(crate) fn moved(start: TextPlace, text: &[u8], offset: usize) -> TextPlace {
     let own = place_of(text, offset);
     if own.line == 0 {
         return TextPlace {

@@ -1,6 +1,6 @@
 //! Files that zone files include (RFC 1035, section 5.1).
 
-use super::Source;
+use crate::listing::Source;
 use dns_names_wire::field_text::{FieldTextError, parse_text};
 use dns_names_wire::zone::{Context, Include};
 use std::alloc::{AllocError, Global};
@@ -15,7 +15,7 @@ const MAX_DEPTH: usize = 10;
 
 /// Why the file of an `$INCLUDE` is not read.
 #[derive(Debug, Drop, Error)]
-pub(super) enum IncludeError {
+pub(crate) enum IncludeError {
     /// The word is no text, or the text is no UTF-8.
     #[error("wanted the name of a file")]
     NoName,
@@ -49,7 +49,7 @@ impl From<AllocError> for IncludeError {
 
 /// Opens the file of an `$INCLUDE`, which is in the text of this file. A relative path begins in the folder of that file. The
 /// entries that come next have what the context says, and the origin of the `$INCLUDE`. So many files are open already.
-pub(super) fn open<E: Files>(
+pub(crate) fn open<E: Files>(
     env: &E,
     alloc: Global,
     file: &str,

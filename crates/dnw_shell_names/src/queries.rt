@@ -1,10 +1,10 @@
 //! Queries.
 
-use super::{Refusal, octets};
 use dns_names_wire::dns_class::DNSClass;
 use dns_names_wire::message_writer::{Edns, WriterState};
 use dns_names_wire::name::Name;
 use dns_names_wire::record_type::RecordType;
+use dnw_shell_base::{Refusal, octets};
 use std::alloc::Global;
 use std::random::RandomSource;
 
@@ -37,7 +37,7 @@ struct Wanted {
 }
 
 /// Returns a query for the records of a type that a name has, in the class IN, in hexadecimal. It asks for recursion.
-pub(super) fn query<E: RandomSource>(
+pub fn query<E: RandomSource>(
     env: &E,
     alloc: Global,
     name: &str,

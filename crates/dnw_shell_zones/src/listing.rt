@@ -1,26 +1,21 @@
 //! Zone files, as lines of their records.
 
-mod checked;
-mod faults;
-mod includes;
-mod shown;
-
-use super::Refusal;
+use crate::faults::{Fault, moved};
+use crate::includes;
+use crate::shown::{Shown, Wanted};
 use dns_names_wire::ProtoError;
 use dns_names_wire::data_text::{DataTextError, RecordLineError};
 use dns_names_wire::name::Name;
 use dns_names_wire::zone::{
     Context, Entry, Found, Include, TextPlace, ZoneError, ZoneRecord, take_entry,
 };
-use faults::Fault;
-use shown::Shown;
-pub(super) use shown::{Form, Wanted};
+use dnw_shell_base::Refusal;
 use std::alloc::Global;
 use std::rt::Files;
 
 /// A zone file, and how far it is read.
 #[derive(Drop)]
-struct Source {
+pub(crate) struct Source {
     /// The file, as its errors name it.
     name: String,
     /// All octets of the file.
@@ -35,7 +30,7 @@ struct Source {
 
 impl Source {
     /// Creates a file of which nothing is read.
-    fn new(name: String, text: Vec<u8>, context: Context) -> Self {
+    pub(crate) fn new(name: String, text: Vec<u8>, context: Context) -> Self {
         Source {
             name,
             text,
@@ -66,7 +61,7 @@ enum Next {
 
 /// Returns the records of a zone file, and of the files that it includes, as they are wanted. If there is an error, the lines of all
 /// errors are a refusal, as compilers show them.
-pub(super) fn listing<E: Files>(
+pub(crate) fn listing<E: Files>(
     env: &E,
     alloc: Global,
     file: &str,
@@ -131,7 +126,7 @@ fn entry<E: Files>(
             Next::Entry
         }
     };
-    source.place = faults::moved(source.place, text, step.used);
+    source.place = moved(source.place, text, step.used);
     source.used = source.used.saturating_add(step.used);
     Ok(next)
 }

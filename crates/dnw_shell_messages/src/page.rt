@@ -1,12 +1,12 @@
 //! Many messages, one after the other.
 
-use super::{Layout, shown};
-use crate::answer::{Refusal, octets};
+use crate::command::{Layout, shown};
+use dnw_shell_base::{Refusal, octets};
 use std::alloc::Global;
 
 /// The text of messages, and of why some were refused.
 #[derive(Drop)]
-pub(super) struct Page {
+pub(crate) struct Page {
     layout: Layout,
     text: String,
     /// How many messages there were.
@@ -16,7 +16,7 @@ pub(super) struct Page {
 
 impl Page {
     /// Creates a text without a message.
-    pub(super) fn new(alloc: Global, layout: Layout) -> Self {
+    pub(crate) fn new(alloc: Global, layout: Layout) -> Self {
         Page {
             layout,
             text: String::new(alloc),
@@ -26,7 +26,7 @@ impl Page {
     }
 
     /// Adds the messages of a text that has each as a line of hexadecimal digits, in which white space says nothing.
-    pub(super) fn add_lines(&mut self, alloc: Global, text: &[u8]) -> Result<(), Refusal> {
+    pub(crate) fn add_lines(&mut self, alloc: Global, text: &[u8]) -> Result<(), Refusal> {
         let mut digits = String::new(alloc);
         for byte in text {
             if *byte == b'\n' {
@@ -52,7 +52,7 @@ impl Page {
     }
 
     /// Adds the messages of a stream that has the length of each in two octets before it.
-    pub(super) fn add_frames(&mut self, alloc: Global, stream: &[u8]) -> Result<(), Refusal> {
+    pub(crate) fn add_frames(&mut self, alloc: Global, stream: &[u8]) -> Result<(), Refusal> {
         let mut left = stream;
         for _ in 0..stream.len() {
             let [high, low, rest @ ..] = left else {
@@ -107,7 +107,7 @@ impl Page {
     }
 
     /// Returns the text without the end of its last line, as a refusal if a message was refused.
-    pub(super) fn finish(mut self) -> Result<String, Refusal> {
+    pub(crate) fn finish(mut self) -> Result<String, Refusal> {
         self.text.pop();
         if self.has_refused {
             Err(Refusal::Messages(self.text))

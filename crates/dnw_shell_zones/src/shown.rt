@@ -1,12 +1,12 @@
 //! The records of a zone, as they are shown.
 
-use super::checked;
-use crate::answer::Refusal;
+use crate::checked;
 use dns_names_wire::binary::BinDecodable;
 use dns_names_wire::canonical::record_key;
 use dns_names_wire::data_text::record_text;
 use dns_names_wire::record::RecordRef;
 use dns_names_wire::zone::{Context, append_origin, append_short_record, append_ttl};
+use dnw_shell_base::Refusal;
 use std::alloc::Global;
 
 /// How records are shown.
@@ -32,11 +32,11 @@ pub(crate) struct Wanted {
 }
 
 /// A record that is kept, in wire form: after its sort key, and after the number of records that were kept before it.
-pub(super) type Kept = (Vec<u8>, usize, Vec<u8>);
+pub(crate) type Kept = (Vec<u8>, usize, Vec<u8>);
 
 /// The records of a zone, shown, or kept until all are there.
 #[derive(Drop)]
-pub(super) struct Shown {
+pub(crate) struct Shown {
     page: Page,
     is_sorted: bool,
     kept: Vec<Kept>,
@@ -46,7 +46,7 @@ pub(super) struct Shown {
 
 impl Shown {
     /// Creates a list without records, of a zone of this origin.
-    pub(super) fn new(alloc: Global, wanted: Wanted, context: Context) -> Self {
+    pub(crate) fn new(alloc: Global, wanted: Wanted, context: Context) -> Self {
         Shown {
             page: Page {
                 form: wanted.form,
@@ -60,7 +60,7 @@ impl Shown {
     }
 
     /// Adds the record that has this wire form, of a line of a file, from 0.
-    pub(super) fn add(
+    pub(crate) fn add(
         &mut self,
         alloc: Global,
         wire: Vec<u8>,
@@ -80,7 +80,7 @@ impl Shown {
     }
 
     /// Returns the text of all records of a file, or of what they are found to have, without the end of its last line.
-    pub(super) fn finish(mut self, alloc: Global, file: &str) -> Result<String, Refusal> {
+    pub(crate) fn finish(mut self, alloc: Global, file: &str) -> Result<String, Refusal> {
         self.kept.sort_unstable();
         if self.page.form == Form::Findings {
             return checked::findings(

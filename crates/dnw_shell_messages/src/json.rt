@@ -1,16 +1,16 @@
 //! Messages as JSON (RFC 8427). Names and data have the texts that they have in master files.
 
-use super::in_additionals;
-use crate::answer::Refusal;
+use crate::command::in_additionals;
 use dns_names_wire::data_text::data_text;
 use dns_names_wire::edns_options::OptionData;
 use dns_names_wire::message::{EdnsRef, Header, MessageRef, MessageType, QueryRef, Records};
 use dns_names_wire::rdata::{RData, RDataError};
 use dns_names_wire::record::RecordRef;
+use dnw_shell_base::Refusal;
 use std::alloc::Global;
 
 /// Returns a message as an object, in one line: the members of RFC 8427, and `EDNS` if there is an `OPT` record.
-pub(super) fn line(alloc: Global, octets: &[u8]) -> Result<String, Refusal> {
+pub(crate) fn line(alloc: Global, octets: &[u8]) -> Result<String, Refusal> {
     let message = MessageRef::read(octets)?;
     let edns = in_additionals(&message, message.edns())?;
     let mut object = Object::new(alloc)?;

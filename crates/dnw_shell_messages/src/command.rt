@@ -1,13 +1,10 @@
-//! Whole messages, of digits, of a file or of standard input: one or many, in the layout of `dig` or as JSON.
+//! What the words after `dnw message` ask for.
 
-mod dig;
-mod json;
-mod page;
-
-use super::{Refusal, contents, octets};
+use crate::page::Page;
+use crate::{dig, json};
 use dns_names_wire::error::DecodeError;
 use dns_names_wire::message::{EdnsError, MessageRef};
-use page::Page;
+use dnw_shell_base::{Refusal, contents, octets};
 use std::alloc::Global;
 use std::io::Read;
 use std::rt::Files;
@@ -25,7 +22,7 @@ enum Form {
 
 /// How messages are shown.
 #[derive(Clone, Copy, PartialEq, Eq)]
-enum Layout {
+pub(crate) enum Layout {
     /// As `dig` shows them.
     Dig,
     /// Each as a JSON object in a line (RFC 8427).
@@ -43,7 +40,7 @@ struct Wanted<'w> {
 
 /// Returns the messages of the source that the words name, as they ask for. If there are many, each that is refused has a line
 /// that says why, and all of them are a refusal.
-pub(super) fn answer<E: Files, I: Read>(
+pub fn messages<E: Files, I: Read>(
     env: &E,
     alloc: Global,
     words: &[String],
@@ -124,7 +121,7 @@ fn message_octets(alloc: Global, given: Vec<u8>) -> Result<Vec<u8>, Refusal> {
 }
 
 /// Returns a message as it is to be shown.
-fn shown(alloc: Global, octets: &[u8], layout: Layout) -> Result<String, Refusal> {
+pub(crate) fn shown(alloc: Global, octets: &[u8], layout: Layout) -> Result<String, Refusal> {
     match layout {
         Layout::Dig => dig::listing(alloc, octets),
         Layout::Json => json::line(alloc, octets),
@@ -132,7 +129,7 @@ fn shown(alloc: Global, octets: &[u8], layout: Layout) -> Result<String, Refusal
 }
 
 /// Returns what a message says by EDNS, or why it says nothing, and where its additional records begin.
-fn in_additionals<T: Drop>(
+pub(crate) fn in_additionals<T: Drop>(
     message: &MessageRef<'_>,
     found: Result<T, EdnsError>,
 ) -> Result<T, Refusal> {

@@ -1,7 +1,6 @@
 //! Whole messages in the layout of `dig`.
 
-use super::in_additionals;
-use crate::answer::Refusal;
+use crate::command::in_additionals;
 use dns_names_wire::data_text::data_text;
 use dns_names_wire::edns_options::OptionData;
 use dns_names_wire::message::{
@@ -9,10 +8,11 @@ use dns_names_wire::message::{
 };
 use dns_names_wire::record::RecordRef;
 use dns_names_wire::record_type::RecordType;
+use dnw_shell_base::Refusal;
 use std::alloc::Global;
 
 /// Returns a message as text: its header, what it says by EDNS, each item of its sections in a line, and how many octets follow it.
-pub(super) fn listing(alloc: Global, octets: &[u8]) -> Result<String, Refusal> {
+pub(crate) fn listing(alloc: Global, octets: &[u8]) -> Result<String, Refusal> {
     let message = MessageRef::read(octets)?;
     let edns = in_additionals(&message, message.edns())?;
     let response = in_additionals(&message, message.response_code())?;

@@ -1,16 +1,16 @@
 //! What a zone is found to have, as compilers show it.
 
-use super::shown::Kept;
-use crate::answer::Refusal;
+use crate::shown::Kept;
 use dns_names_wire::binary::BinDecodable;
 use dns_names_wire::name::Name;
 use dns_names_wire::record::RecordRef;
 use dns_names_wire::zone::{Finding, check_zone};
+use dnw_shell_base::Refusal;
 use std::alloc::Global;
 
 /// Returns what a zone is found to have, as a line for each finding, in the order in which the records came, and after these how much
 /// it is. The records are in canonical order. If an error is among the findings, the lines are a refusal.
-pub(super) fn findings(
+pub(crate) fn findings(
     alloc: Global,
     file: &str,
     zone: &Name,

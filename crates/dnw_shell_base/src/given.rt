@@ -1,0 +1,44 @@
+//! What commands are given: files, standard input, and hexadecimal digits.
+
+use crate::refusal::Refusal;
+use dns_names_wire::ProtoError;
+use hex::FromHexError;
+use std::alloc::Global;
+use std::io::Read;
+use std::rt::Files;
+use std::{fs, io};
+
+/// All octets of a file, or of standard input if the file is `-`.
+pub fn contents<E: Files, I: Read>(
+    env: &E,
+    alloc: Global,
+    file: &str,
+    input: &mut I,
+) -> Result<Vec<u8>, Refusal> {
+    let mut octets = Vec::new(alloc);
+    if file == "-" {
+        input.read_to_end(&mut octets)?;
+        return Ok(octets);
+    }
+    match read_file(env, file, &mut octets) {
+        Ok(()) => Ok(octets),
+        Err(error) => Err(Refusal::File {
+            file: String::from_str(alloc, file)?,
+            error,
+        }),
+    }
+}
+
+/// Appends all octets of a file.
+fn read_file<E: Files>(env: &E, file: &str, octets: &mut Vec<u8>) -> io::Result<()> {
+    fs::open(env, file)?.read_to_end(octets)?;
+    Ok(())
+}
+
+/// Octets in hexadecimal digits of either case.
+pub fn octets(alloc: Global, text: &str) -> Result<Vec<u8>, Refusal> {
+    hex::decode(alloc, text).map_err(|e| match e {
+        FromHexError::OutOfMemory => Refusal::Proto(ProtoError::Memory),
+        _ => Refusal::Usage,
+    })
+}

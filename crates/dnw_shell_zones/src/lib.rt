@@ -1,0 +1,20 @@
+//! Zone files as `dnw zone` and `dnw zone-digest` read them, with the files that they include: as lines of their records, as what
+//! they are found to have, or as their errors.
+//!
+//! Read `src/command.rt` first: what the words ask for.
+#![tactic(auto)]
+
+/// What a zone is found to have, as compilers show it.
+mod checked;
+/// What the words after `dnw zone` and `dnw zone-digest` ask for.
+pub mod command;
+/// Errors of texts, as compilers show them.
+mod faults;
+/// Files that zone files include (RFC 1035, section 5.1).
+mod includes;
+/// Zone files, as lines of their records.
+mod listing;
+/// The records of a zone, as they are shown.
+mod shown;
+
+pub use command::{digest, zone};
