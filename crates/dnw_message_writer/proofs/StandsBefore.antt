@@ -5,7 +5,7 @@ use Rattle.dnw_base.specs.Labels.{IsLabel}
 use Rattle.dnw_base.specs.Names.{wire}
 use Rattle.dnw_message_writer.specs.declared.standing.Spot.{Spot}
 use Rattle.dnw_message_writer.specs.Standing.{FollowsPointer, IsThere, StandsFrom, StandsSettled, after_octets}
-use Rattle.dnw_message_writer.specs.Inside.Standing.{FollowsBefore, IsBefore}
+use Rattle.dnw_message_writer.specs.Inside.Standing.{FollowsBefore, AreNextBefore}
 use Rattle.dnw_message_writer.proofs.Stands.{stands_on}
 use Rattle.dnw_message_writer.proofs.Wholes.{whole_stands}
 
@@ -84,7 +84,7 @@ module _ (b : List ℕ) (gap start : ℕ) (all : List (List ℕ)) where
         let within = g.within in
         omega (arith, before, within)
 
-    there_in : (octets : List ℕ) → IsBefore b t octets → IsThere b gap (with_limit (leads_by s t left g f).other t) octets
+    there_in : (octets : List ℕ) → AreNextBefore b t octets → IsThere b gap (with_limit (leads_by s t left g f).other t) octets
     there_in octets is =
         let l = leads_by s t left g f in
         let fits = is.fits in
@@ -99,17 +99,17 @@ module _ (b : List ℕ) (gap start : ℕ) (all : List (List ℕ)) where
         }
 
     -- a wire form that is there whole
-    pub whole_before : (form : List ℕ) → form ≡ wire left → AllByRecursion IsLabel left → IsBefore b t form → StandsSettled b gap start all
+    pub whole_before : (form : List ℕ) → form ≡ wire left → AllByRecursion IsLabel left → AreNextBefore b t form → StandsSettled b gap start all
     whole_before form form_is are is =
         let l = leads_by s t left g f in
-        let here : IsBefore b t (wire left) = subst (λ o. IsBefore b t o) form_is is in
+        let here : AreNextBefore b t (wire left) = subst (λ o. AreNextBefore b t o) form_is is in
         let fits = here.fits in
         let more = l.more in
         g.goes_on (whole_stands b gap (with_limit g.end s) (with_limit l.other t) left l.follows are (there_in (wire left) here) (omega (arith, fits, more)))
 
     -- a label is taken
     pub label_before : (label form : List ℕ) (later : List (List ℕ)) → left ≡ label ∷ later → form ≡ wire left
-        → IsBefore b t (take (length label + 1) form) → Reaches b gap start all (after_octets t (length label + 1)) later
+        → AreNextBefore b t (take (length label + 1) form) → Reaches b gap start all (after_octets t (length label + 1)) later
     label_before label form later split form_is is =
         let l = leads_by s t left g f in
         let header = l.after_header in

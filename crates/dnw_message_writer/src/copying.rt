@@ -487,7 +487,7 @@ fn is_held(item: &RecordRef<'_>) -> bool
 }
 
 /// Returns `true` for a signature of a message: TSIG (RFC 8945), or SIG(0), which is a SIG that covers no type (RFC 2931, section 3).
-/// Another SIG covers records, and is one as others.
+/// A SIG that covers a type is a record like others.
 #[inline(always)]
 fn signs_message(item: &RecordRef<'_>) -> bool
     ensures { result ≡ signs_message item.now }

@@ -1,6 +1,6 @@
 //! Labels that stand in a message while it is written, so that a pointer may stand for them.
 ghost use Rattle.std.specs.Prelude.{◌≡◌, ◌↔◌, ◌<◌, ◌≤◌, ◌+◌, ◌∷◌, length, slice_range, IfSome, IsTrue};
-ghost use Rattle.dnw_message_writer.specs.Inside.Standing.{FollowsBefore, IsBefore};
+ghost use Rattle.dnw_message_writer.specs.Inside.Standing.{FollowsBefore, AreNextBefore};
 ghost use Rattle.dnw_message_writer.specs.Standing.{FollowsPointer, AreSettled, IsThere, LeadsBack, StandsSettled};
 
 use dnw_base::limits::POINTER_BITS;
@@ -131,7 +131,7 @@ fn followed_before(message: &[u8], spot: Spot) -> Option<Spot>
 fn is_whole_before(message: &[u8], spot: Spot, octets: &[u8]) -> bool
     requires before { spot.position < spot.limit }
     requires limit { spot.limit ≤ length message.now }
-    ensures { IsTrue result → IsBefore message.now spot octets.now }
+    ensures { IsTrue result → AreNextBefore message.now spot octets.now }
 {
     let size = octets.len();
     if spot.position != spot.segment || size == 0 || size > spot.limit - spot.position {
@@ -147,7 +147,7 @@ fn is_whole_before(message: &[u8], spot: Spot, octets: &[u8]) -> bool
 fn begins_before(message: &[u8], spot: Spot, octets: &[u8]) -> bool
     requires before { spot.position < spot.limit }
     requires limit { spot.limit ≤ length message.now }
-    ensures { IsTrue result → IsBefore message.now spot octets.now }
+    ensures { IsTrue result → AreNextBefore message.now spot octets.now }
 {
     octets.len() <= spot.limit - spot.position && is_at(message, spot.position, octets)
 }

@@ -16,6 +16,6 @@ pub record FollowsBefore (b : List ℕ) (s t : Spot) : Type 0 where
   pub way : ((slice_index b s.position < pointer_bits) × (t ≡ s)) ⊎ (PointsBefore b s × (t ≡ after_pointer b s))
 
 -- These octets are next, up to the limit.
-pub record IsBefore (b : List ℕ) (s : Spot) (octets : List ℕ) : Type 0 where
+pub record AreNextBefore (b : List ℕ) (s : Spot) (octets : List ℕ) : Type 0 where
   pub fits : s.position + length octets ≤ s.limit
   pub same : slice_range b s.position (s.position + length octets) ≡ octets
