@@ -209,10 +209,12 @@ pub use Rattle.dnw_record.specs.AnyRecordLaws.{AnyRecordsAreRead, AnyRecordsFit,
 pub use Rattle.dnw_record.specs.AnyRecordLaws.{NamesKeepRead, NewAreRead, PlainDataAreOctets, ReadsAs, RefusedAnyUndo, WholeDataAreOctets, WritesKeepRead}
 pub use Rattle.dnw_record.specs.AnyRecordLaws.{any_record_size, piece_value, piece_values, written_piece, written_pieces}
 pub use Rattle.dnw_record.specs.AnyRecordFrames.{frame_rdata}
+-- the pointers that names in data follow
+pub use Rattle.dnw_record.specs.DataPointers.{FieldFollows, IsNoField, TakesAllPointers, TakesDataPointers, TakesPointers}
+pub use Rattle.dnw_message_read.specs.DataPointers.{records_of}
 -- records in canonical form
 pub use Rattle.dnw_signed.specs.declared.error.CanonicalError.{CanonicalError}
 pub use Rattle.dnw_signed.specs.CanonicalData.{IsCanonical, canonical_piece, canonical_pieces}
-pub use Rattle.dnw_signed.specs.DataPointers.{FieldFollows, IsNoField, TakesDataPointers, TakesPointers}
 pub use Rattle.dnw_signed.specs.RecordSets.{AreCanonical, FailsSetFrom, FailsSet, FirstOther, IsMember, IsOfSet, IsRecordSet, IsSet, IsInOrder}
 pub use Rattle.dnw_signed.specs.RecordSets.{set_head, set_record, signed_owner}
 pub use Rattle.dnw_signed.specs.SignedFields.{FailsSignedFields, IsRrsig, IsSignedFields, before_signer}
@@ -235,7 +237,8 @@ pub use Rattle.dnw_message_writer.specs.SizeLaws.{QuestionsTakeNoMore, RecordsTa
 pub use Rattle.dnw_message_writer.specs.CompressedNames.{Compresses, FindsHint, FindsNoHint, former_hint, kept_hints, later_hint, MayPointTo, pointer_octets, put_at, PutsForm, PutsPast, spelled}
 pub use Rattle.dnw_message_writer.specs.ContentLaws.{given_form, GivenRecordsAreAdded}
 pub use Rattle.dnw_message_writer.specs.Copying.{AreASet, AreOfOneSet, CopiesHeld, CopiesMessage, CopiesQuestions, CopiesSections, CopiesSets, copied_past, CopyFits, EndsBefore}
-pub use Rattle.dnw_message_writer.specs.Copying.{FailsHeld, FailsQuestions, FailsSections, FailsSets, FailsToAddCopy, FailsToAddQuery, FailsToCopyMessage, StopsAmong, StopsInSet}
+pub use Rattle.dnw_message_writer.specs.Copying.{FailsHeld, FailsQuestions, FailsSections, FailsSets, FailsToAddCopy, FailsToAddQuery, FailsToCopyMessage, FollowsFew, StopsAmong}
+pub use Rattle.dnw_message_writer.specs.Copying.{StopsInSet}
 pub use Rattle.dnw_message_writer.specs.Copying.{copied_form, covers_no_type, held_from, held_in, is_answer, is_held, is_missing, own_octets, query_form, sets_of, sig_code, signs_message, tsig_code}
 pub use Rattle.dnw_message_writer.specs.CopyLaws.{AreItemsOf, AreTheFirst, CopiesHold, IsCopiedQuestion, IsCopiedRecord}
 pub use Rattle.dnw_message_writer.specs.Data.{AreOfData}

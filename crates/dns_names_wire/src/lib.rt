@@ -48,12 +48,12 @@ pub mod codes {
 
 /// Records in canonical form: the octets that a signature covers, and what follows from their definitions.
 pub mod canonical {
+    pub use dnw_record::pointers::pointers_left;
     pub use dnw_signed::canonical::{record_set, signed_fields};
     pub use dnw_signed::covering::signed_octets;
     pub use dnw_signed::error::CanonicalError;
     pub use dnw_signed::fields::canonical_octets;
     pub use dnw_signed::laws;
-    pub use dnw_signed::pointers::pointers_left;
     pub use dnw_signed::record_key::record_key;
 }
 

@@ -8,7 +8,7 @@ use Rattle.dnw_record.specs.declared.record.Record.{Record}
 use Rattle.dnw_record.proofs.RecordReading.{record_own}
 use Rattle.dnw_base.specs.Limits.{max_pointers}
 use Rattle.dnw_record.specs.Records.{RecordValue}
-use Rattle.dnw_signed.specs.DataPointers.{TakesDataPointers}
+use Rattle.dnw_record.specs.DataPointers.{TakesDataPointers}
 use Rattle.dnw_c_signed.specs.RecordCalls.{LimitedRecordAt, TakesNextRecord}
 use Rattle.dnw_c_signed.specs.ZoneCalls.{AreLimitedCopies, AreRecordCopies, FailsToCopyAll, FailsToCopyNext, copy_first, no_copies}
 

@@ -5,7 +5,7 @@ use Rattle.dnw_base.specs.Limits.{max_pointers}
 use Rattle.dnw_record.specs.Records.{RecordValue}
 use Rattle.dnw_record.specs.AnyRecords.{IsCopyOf}
 use Rattle.dnw_record.specs.declared.record.Record.{Record}
-use Rattle.dnw_signed.specs.DataPointers.{TakesDataPointers}
+use Rattle.dnw_record.specs.DataPointers.{TakesDataPointers}
 use Rattle.dnw_signed.specs.ZoneDigests.{FailsZoneDigest, IsZoneDigest}
 use Rattle.dnw_c_base.specs.WireForms.{IsFormOf, IsNoForm}
 use Rattle.dnw_c_base.specs.declared.failure.Failure.{Failure}

@@ -3,7 +3,7 @@ ghost use Rattle.std.specs.Prelude.{◌≡◌, [], ◌∷◌, ◌++◌, ℕ, Som
 ghost use Rattle.dnw_record.specs.Records.{RecordValue};
 ghost use Rattle.dnw_record.specs.AnyRecords.{IsCopyOf};
 ghost use Rattle.dnw_record.specs.declared.record.Record.{Record};
-ghost use Rattle.dnw_signed.specs.DataPointers.{TakesDataPointers};
+ghost use Rattle.dnw_record.specs.DataPointers.{TakesDataPointers};
 ghost use Rattle.dnw_c_base.specs.Results.{Returns};
 ghost use Rattle.dnw_c_signed.specs.RecordCalls.{TakesNextRecord};
 ghost use Rattle.dnw_c_signed.specs.ZoneCalls.{AreLimitedCopies, FailsToCopyAll, FailsToCopyNext, FailsToCopyTaken, FailsToDigestZone};
@@ -16,10 +16,10 @@ use dnw_base::limits::MAX_POINTERS;
 use dnw_c_base::buffer::put;
 use dnw_c_base::failure::Failure;
 use dnw_c_base::results::report;
+use dnw_record::pointers::pointers_left;
 use dnw_record::record::Record;
 use dnw_record::record_ref::RecordRef;
 use dnw_signed::ds::Digest;
-use dnw_signed::pointers::pointers_left;
 use dnw_signed::zone_digest::zone_digest;
 use std::alloc::Global;
 

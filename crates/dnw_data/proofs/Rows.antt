@@ -1,5 +1,5 @@
 -- Other data have the same fields if they are alike in what the table looks at: whether there are any, and the first octet of A6.
-use Rattle.std.proofs.Common.{◌≡◌, ℕ, ◌==◌, ◌||◌, zero, suc, Bool, List, [], ◌∷◌, length, take, slice_index, inl, inr, refl, sym, ap, ◌∙◌, arith}
+use Rattle.std.proofs.Common.{◌≡◌, ℕ, ◌==◌, ◌&&◌, ◌||◌, zero, suc, Bool, true, false, List, [], ◌∷◌, length, take, slice_index, inl, inr, refl, sym, ap, ◌∙◌, arith}
 use Rattle.std.specs.Prelude.{nat_lt, not, if◌then◌else◌}
 use Rattle.std.proofs.lemmas.Bool.{cases_Bool}
 use Rattle.std.proofs.lemmas.List.{nil_from_length}
@@ -11,7 +11,7 @@ use Rattle.dnw_data.specs.declared.kind.Shape.{Shape}
 use Rattle.dnw_data.specs.declared.kind.Shape.TheVariants.{Location, Gateway, Relay, HostIdentity, AddressSuffix}
 use Rattle.dnw_data.specs.Shapes.{shape_size}
 use Rattle.dnw_data.specs.Values.{own_size}
-use Rattle.dnw_data.specs.Table.{a6, a6_fields, fields_of, fields_of_some, is_internet_type, is_like_internet, may_lack_data}
+use Rattle.dnw_data.specs.Table.{Row, a6, a6_fields, chaos_fields, fields_elsewhere, fields_in, fields_in_internet, fields_of, fields_of_some, hex, table, is_internet_type, is_like_internet, may_lack_data}
 
 -- Data whose fields are of these kinds, and others that are alike.
 abbrev pub Alike : List Kind → List ℕ → List ℕ → Type 0
@@ -91,3 +91,49 @@ first_of kind (x ∷ xs) own is = by_size (own_size kind (x ∷ xs)) refl
     by_size : (n : ℕ) → own_size kind (x ∷ xs) ≡ n → slice_index own 0 ≡ x
     by_size zero none = let no = size_some kind (x ∷ xs) none in absurd cc
     by_size (suc n) some = ap (λ (o : List ℕ). slice_index o 0) (is ∙ ap (λ k. take k (x ∷ xs)) some)
+
+-- ---- what holds of the fields of each row
+
+abbrev pub rows_hold : (List Kind → Bool) → List Row → Bool
+rows_hold P [] = true
+rows_hold P (row ∷ rows) = P row.fields && rows_hold P rows
+
+-- It holds of the fields of all data: of none, of octets, of those of Chaosnet, of A6 and of the table.
+pub record Holds (P : List Kind → Bool) : Type 0 where
+  pub none : P [] ≡ true
+  pub octets : P (hex ∷ []) ≡ true
+  pub chaos : P chaos_fields ≡ true
+  pub six : (prefix : ℕ) → P (a6_fields prefix) ≡ true
+  pub rows : rows_hold P table ≡ true
+
+in_rows : (P : List Kind → Bool) (rows : List Row) (code : ℕ) → P (hex ∷ []) ≡ true → rows_hold P rows ≡ true → P (fields_in rows code) ≡ true
+in_rows P [] code other hold = other
+in_rows P (row ∷ rows) code other hold = elim (cases_Bool (P row.fields)) [
+  | inr wrong ↦ let no : false ≡ true = rw wrong at hold in absurd cc
+  | inl first ↦ elim (cases_Bool (row.code == code)) [
+    | inl here ↦ let is : fields_in (row ∷ rows) code ≡ row.fields = rw (here, fields_in) refl in ap P is ∙ first
+    | inr there ↦
+        let is : fields_in (row ∷ rows) code ≡ fields_in rows code = rw (there, fields_in) refl in
+        ap P is ∙ in_rows P rows code other (rw first at hold)
+  ]
+]
+
+pub fields_hold : (P : List Kind → Bool) → Holds P → (class code : ℕ) (octets : List ℕ) → P (fields_of class code octets) ≡ true
+unfolding fields_of
+fields_hold P h class code octets = by_octets octets
+  where
+    internet : (own : List ℕ) → P (fields_in_internet code own) ≡ true
+    internet own = elim (cases_Bool (code == a6)) [
+      | inl is ↦ rw is (h.six (slice_index own 0))
+      | inr other ↦ rw other (in_rows P table code h.octets h.rows)
+    ]
+
+    elsewhere : P (fields_elsewhere class code) ≡ true
+    elsewhere = elim (cases_Bool (class == 3 && code == 1)) [ inl is ↦ rw is h.chaos | inr other ↦ rw other h.octets ]
+
+    some : (own : List ℕ) → P (fields_of_some class code own) ≡ true
+    some own = elim (cases_Bool (is_like_internet class || not (is_internet_type code))) [ inl like ↦ rw like (internet own) | inr other ↦ rw other elsewhere ]
+
+    by_octets : (own : List ℕ) → P (fields_of class code own) ≡ true
+    by_octets [] = elim (cases_Bool (may_lack_data class code)) [ inl may ↦ rw may h.none | inr must ↦ rw must (some []) ]
+    by_octets (o ∷ os) = some (o ∷ os)

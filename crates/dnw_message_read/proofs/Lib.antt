@@ -11,3 +11,4 @@ pub mod Names
 pub mod Texts
 pub mod Octets
 pub mod Back
+pub mod FewRecords

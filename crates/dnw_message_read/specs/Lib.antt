@@ -6,6 +6,7 @@ pub mod Responses
 pub mod Edns
 pub mod Messages
 pub mod MessageLaws
+pub mod DataPointers
 pub mod Queries
 pub mod Codes
 pub mod Values

@@ -32,6 +32,7 @@ pub mod option;
 pub mod option_error;
 pub mod option_laws;
 mod passing;
+pub mod pointers;
 pub mod query;
 pub mod response_code;
 mod text;

@@ -1,9 +1,11 @@
 //! Messages, which are read without copying.
-ghost use Rattle.std.specs.Prelude.{◌≡◌, [], ℕ, ◌<◌, ◌≤◌, length, drop, slice_range, IfOk, IfErr};
+ghost use Rattle.std.specs.Prelude.{◌≡◌, [], ℕ, ◌+◌, ◌*◌, ◌<◌, ◌≤◌, Some, length, drop, slice_range, IfOk, IfErr, IsTrue};
 ghost use Rattle.std.specs.Bool.{FalseIff};
 ghost use Rattle.dnw_message_read.specs.Headers.{header_of, header_size};
 ghost use Rattle.dnw_message_read.specs.Edns.{FailsEdns, FailsOnlyOpt, HasEdns, HasOpt, IsOnlyOpt, IsResponseCode, opts_in, opts_outside};
 ghost use Rattle.dnw_base.specs.Limits.{max_pointers};
+ghost use Rattle.dnw_record.specs.DataPointers.{TakesAllPointers};
+ghost use Rattle.dnw_message_read.specs.DataPointers.{records_of};
 ghost use Rattle.dnw_message_read.specs.Messages.{MessageAt, FailsMessage, SectionsBegin, no_header};
 
 use crate::edns::{EdnsError, EdnsRef, next_opt};
@@ -14,7 +16,7 @@ use crate::passing::{Known, Walk, pass_section};
 use crate::response_code::ResponseCode;
 use dnw_base::decoder::BinDecoder;
 use dnw_base::error::DecodeError;
-use dnw_base::limits::MAX_POINTERS;
+use dnw_base::limits::{MAX_MESSAGE, MAX_POINTERS};
 use dnw_base::record_type::RecordType;
 use dnw_record::record_ref::RecordRef;
 use std::marker::Model;
@@ -243,6 +245,21 @@ impl<'m> MessageRef<'m> {
         }
     }
 
+    /// Returns `true` if the records and the octets are so few that the names in the data follow no more than `max_pointers`
+    /// compression pointers in all.
+    pub(crate) fn has_few_records(&self, max_pointers: usize) -> bool
+        ensures { IsTrue result → (left : ℕ) × TakesAllPointers (records_of self.now) max_pointers (Some left) }
+    {
+        let counts = &self.header.counts;
+        are_few(
+            counts.answers,
+            counts.authorities,
+            counts.additionals,
+            self.message.len(),
+            max_pointers,
+        )
+    }
+
     /// Returns the offset at which the message ends.
     #[inline(always)]
     pub fn end(&self) -> usize
@@ -257,6 +274,27 @@ impl<'m> MessageRef<'m> {
         ensures { result.now ≡ drop self.now.end self.now.octets }
     {
         &self.message[self.end..]
+    }
+}
+
+/// Returns `true` if the names in the data of so many records follow no more than `max_pointers` compression pointers in all, whatever
+/// they are: no data have more than two names, and none follows more than the octets of the message.
+fn are_few(
+    answers: u16,
+    authorities: u16,
+    additionals: u16,
+    octets: usize,
+    max_pointers: usize,
+) -> bool
+    ensures { IsTrue result → (answers + authorities + additionals) * (octets + octets) ≤ max_pointers }
+{
+    if octets > usize::from(MAX_MESSAGE) {
+        return false;
+    }
+    let records = usize::from(answers) + usize::from(authorities) + usize::from(additionals);
+    match records.checked_mul(octets + octets) {
+        Some(most) => most <= max_pointers,
+        None => false,
     }
 }
 

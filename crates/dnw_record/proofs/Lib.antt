@@ -5,6 +5,8 @@ pub mod Bounded
 pub mod Preceding
 pub mod Kept
 pub mod Copying
+pub mod Followed
+pub mod FewPointers
 pub mod Pieces
 pub mod GivenFields
 pub mod Going

@@ -129,7 +129,7 @@ own_again kind own front rest size right =
       ap (λ (x : List ℕ). record { bytes = x; index = length (front ++ own) }) (append_assoc front own rest) ∙ ap (λ n. record { bytes = b; index = n }) next,
     )
 
-piece_again : (kind : Kind) (piece : DataPiece) (front rest : List ℕ) → IsPieceOf kind piece rest
+pub piece_again : (kind : Kind) (piece : DataPiece) (front rest : List ℕ) → IsPieceOf kind piece rest
     → TakesPiece kind (behind front (piece_octets piece ++ rest)) piece (behind (front ++ piece_octets piece) rest)
 piece_again (Name form) (name_piece own labels) front rest (is, are) =
     subst (λ f. TakesPiece (Name form) (behind front (wire labels ++ rest)) (name_piece f labels) (behind (front ++ wire labels) rest)) (sym is) (name_again form labels front rest are)

@@ -7,6 +7,7 @@ pub mod RecordFrames
 pub mod RecordLaws
 pub mod DataPieces
 pub mod DataCopies
+pub mod DataPointers
 pub mod GivenFields
 pub mod AnyRecords
 pub mod WireRecords

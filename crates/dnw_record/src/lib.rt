@@ -9,6 +9,7 @@ mod conversions;
 mod emitting;
 pub mod from_fields;
 pub mod laws;
+pub mod pointers;
 pub mod rdata;
 pub mod record;
 pub mod record_ref;

@@ -6,7 +6,6 @@ pub mod KnownRrsig
 pub mod RecordKeys
 pub mod Lowering
 pub mod Putting
-pub mod Followed
 pub mod Listing
 pub mod Selecting
 pub mod OnlyOne

@@ -21,12 +21,12 @@ use Rattle.dnw_record.proofs.Pieces.{are_pieces, pieces_unique}
 use Rattle.dnw_signed.specs.CanonicalData.{IsCanonical, IsCanonicalOf, ReadsCanonical, canonical_piece, canonical_pieces}
 use Rattle.dnw_record.specs.declared.rdata.RDataError.{RDataError}
 use Rattle.dnw_record.specs.declared.rdata.RDataError.TheVariants.{Field, Memory}
-use Rattle.dnw_signed.specs.DataPointers.{FieldFollows, TakesPointers, next_field, no_field, too_few}
+use Rattle.dnw_record.specs.DataPointers.{FieldFollows, TakesPointers, next_field, no_field, too_few}
 use Rattle.dnw_signed.specs.declared.error.CanonicalError.{CanonicalError}
 use Rattle.dnw_signed.specs.declared.error.CanonicalError.TheVariants as why
 use Rattle.dnw_signed.specs.Inside.Putting.{FailsFew, IsPutting, IsPuttingFew, of_data}
 use Rattle.dnw_signed.specs.Inside.Selecting.{FailsSelected}
-use Rattle.dnw_signed.proofs.Followed.{all_passed}
+use Rattle.dnw_record.proofs.Followed.{all_passed}
 
 module _ {kinds : List Kind} {start : Decoder} {before : List ℕ} where
   pub begins_putting : IsPutting kinds start before kinds start before

@@ -1,5 +1,4 @@
 pub mod CanonicalData
-pub mod DataPointers
 pub mod RecordSets
 pub mod SignedFields
 pub mod Covering

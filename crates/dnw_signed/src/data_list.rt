@@ -2,7 +2,7 @@
 ghost use Rattle.std.specs.Prelude.{◌≡◌, ◌≤◌, ◌<◌, ◌-◌, ◌↔◌, ℕ, true, Some, List, [], ◌∷◌, ◌++◌, length, IfOk, IfErr, OnOk, IsTrue, MatchBool};
 ghost use Rattle.dnw_base.specs.Limits.{max_message};
 ghost use Rattle.dnw_signed.specs.CanonicalData.{IsCanonical, IsCanonicalOf};
-ghost use Rattle.dnw_signed.specs.DataPointers.{TakesDataPointers};
+ghost use Rattle.dnw_record.specs.DataPointers.{TakesDataPointers};
 ghost use Rattle.dnw_signed.specs.Inside.Going.{AreShort, all_octets};
 ghost use Rattle.dnw_signed.specs.Inside.Listing.{TakesData, HoldsData, data_of};
 ghost use Rattle.dnw_signed.specs.Inside.Selecting.{FailsSelected};

@@ -7,7 +7,7 @@ ghost use Rattle.dnw_record.specs.DataPieces.{DataPiece, name_piece, piece_octet
 ghost use Rattle.dnw_record.specs.DataCopies.{FailsPiece, FailsToCopy, TakesNamePiece, TakesOwnPiece, TakesPiece};
 ghost use Rattle.dnw_record.specs.Inside.Copying.{IsNoName};
 ghost use Rattle.dnw_signed.specs.CanonicalData.{FailsCanonical, IsCanonical, IsCanonicalOf, ReadsCanonical, canonical_labels, canonical_piece};
-ghost use Rattle.dnw_signed.specs.DataPointers.{FieldFollows, TakesDataPointers, TakesPointers};
+ghost use Rattle.dnw_record.specs.DataPointers.{FieldFollows, TakesDataPointers, TakesPointers};
 ghost use Rattle.dnw_signed.specs.Inside.Putting.{FailsFew, of_data};
 ghost use Rattle.dnw_signed.specs.Inside.Selecting.{FailsSelected};
 

@@ -16,7 +16,6 @@ pub mod fields;
 pub mod key_tag;
 pub mod laws;
 pub mod nsec3;
-pub mod pointers;
 pub mod record_key;
 mod set;
 pub mod zone_digest;

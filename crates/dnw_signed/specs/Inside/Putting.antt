@@ -8,7 +8,7 @@ use Rattle.dnw_record.specs.Inside.Copying.{IsCopying}
 use Rattle.dnw_record.specs.declared.rdata.RDataError.{RDataError}
 use Rattle.dnw_record.specs.declared.rdata.RDataError.TheVariants as rdata
 use Rattle.dnw_signed.specs.CanonicalData.{canonical_pieces}
-use Rattle.dnw_signed.specs.DataPointers.{TakesPointers}
+use Rattle.dnw_record.specs.DataPointers.{TakesPointers}
 use Rattle.dnw_signed.specs.declared.error.CanonicalError.{CanonicalError}
 use Rattle.dnw_signed.specs.declared.error.CanonicalError.TheVariants as why
 

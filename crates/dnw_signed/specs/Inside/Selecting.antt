@@ -6,7 +6,7 @@ use Rattle.dnw_record.specs.Records.{RecordValue}
 use Rattle.dnw_record.specs.declared.rdata.RDataError.TheVariants as rdata
 use Rattle.dnw_base.specs.Limits.{max_message, max_pointers}
 use Rattle.dnw_signed.specs.CanonicalData.{IsCanonicalOf}
-use Rattle.dnw_signed.specs.DataPointers.{TakesDataPointers}
+use Rattle.dnw_record.specs.DataPointers.{TakesDataPointers}
 use Rattle.dnw_signed.specs.Covering.{AreCovered, FailsCovered, IsCovered, IsRightRrsig, IsTooLong, LacksCanonical, LacksPointers, SignsFor}
 use Rattle.dnw_signed.specs.declared.error.CanonicalError.{CanonicalError}
 use Rattle.dnw_signed.specs.declared.error.CanonicalError.TheVariants as why

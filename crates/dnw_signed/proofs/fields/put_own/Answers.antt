@@ -3,7 +3,7 @@ use Rattle.dnw_base.specs.Decoder.{Decoder}
 use Rattle.dnw_data.specs.Fields.{own_at, size_at}
 use Rattle.dnw_record.specs.DataPieces.{octets_piece}
 use Rattle.dnw_record.proofs.Copying.{takes_own}
-use Rattle.dnw_signed.proofs.Followed.{own_follows}
+use Rattle.dnw_record.proofs.Followed.{own_follows}
 use Rattle.dnw_signed.proofs.fields.put_own.Goals as goal
 
 pub returns-clause-ok : goal.returns-clause-ok

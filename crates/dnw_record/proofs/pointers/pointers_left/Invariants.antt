@@ -1,6 +1,6 @@
 use Rattle.std.proofs.Common.{ℕ, Option, length}
-use Rattle.dnw_signed.specs.DataPointers.{TakesDataPointers, TakesPointers}
-use Rattle.dnw_signed.proofs.pointers.pointers_left.Given as goal
+use Rattle.dnw_record.specs.DataPointers.{TakesDataPointers, TakesPointers}
+use Rattle.dnw_record.proofs.pointers.pointers_left.Given as goal
 
 -- what is left, from here, gives what all gives
 abbrev pub invariant-fields : goal.invariant-fields

@@ -6,7 +6,7 @@ use Rattle.dnw_data.specs.declared.kind.Kind.TheVariants as kind
 use Rattle.dnw_data.specs.Fields.{TakesField}
 use Rattle.dnw_data.specs.Values.{FieldValue}
 use Rattle.dnw_record.specs.Inside.Copying.{IsNoName}
-use Rattle.dnw_signed.specs.DataPointers.{FieldFollows, TakesPointers, no_fields}
+use Rattle.dnw_record.specs.DataPointers.{FieldFollows, TakesPointers, no_fields}
 
 -- a field that is no name follows none
 pub own_follows : (k : Kind) (before after : Decoder) (value : FieldValue) → IsNoName k → TakesField k before value after → FieldFollows k before after 0

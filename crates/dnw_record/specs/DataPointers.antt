@@ -1,5 +1,5 @@
 -- The compression pointers that names in the data of records follow, of a number that may be followed in all.
-use Rattle.std.specs.Prelude.{◌≡◌, ◌<◌, ℕ, ◌+◌, Option, Some, None, List, [], ◌∷◌}
+use Rattle.std.specs.Prelude.{◌≡◌, ◌<◌, ℕ, ◌+◌, ◌⊎◌, Option, Some, None, List, [], ◌∷◌}
 use Rattle.dnw_base.specs.Decoder.{Decoder}
 use Rattle.dnw_base.specs.declared.error.DecodeError.{DecodeError}
 use Rattle.dnw_name_read.specs.Reading.{TakesName}
@@ -32,3 +32,9 @@ pub data TakesPointers : List Kind → Decoder → ℕ → Option ℕ → Type 0
 -- the same of the data of a record of a message
 abbrev pub TakesDataPointers : RecordValue → ℕ → Option ℕ → Type 0
 TakesDataPointers r most end = TakesPointers (record_kinds r) (data_start r) most end
+
+-- the same of the data of records of a message, one after another
+abbrev pub TakesAllPointers : List RecordValue → ℕ → Option ℕ → Type 0
+TakesAllPointers [] most end = end ≡ Some most
+TakesAllPointers (r ∷ rs) most end =
+    (TakesDataPointers r most None × (end ≡ None)) ⊎ ((left : ℕ) × TakesDataPointers r most (Some left) × TakesAllPointers rs left end)

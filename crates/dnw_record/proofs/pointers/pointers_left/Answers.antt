@@ -1,7 +1,7 @@
 use Rattle.std.proofs.Common.{Some, None, ◌-◌, arith}
-use Rattle.dnw_signed.specs.DataPointers.{next_field, no_field, too_few}
-use Rattle.dnw_signed.proofs.Followed.{all_passed}
-use Rattle.dnw_signed.proofs.pointers.pointers_left.Goals as goal
+use Rattle.dnw_record.specs.DataPointers.{next_field, no_field, too_few}
+use Rattle.dnw_record.proofs.Followed.{all_passed}
+use Rattle.dnw_record.proofs.pointers.pointers_left.Goals as goal
 
 pub returns-in_default-pass_field : goal.returns-in_default-pass_field
 returns-in_default-pass_field c =

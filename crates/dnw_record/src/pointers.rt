@@ -4,14 +4,14 @@ ghost use Rattle.dnw_base.specs.declared.error.DecodeError.{DecodeError};
 ghost use Rattle.dnw_name_read.specs.Reading.{TakesName};
 ghost use Rattle.dnw_data.specs.Fields.{FailsName};
 ghost use Rattle.dnw_record.specs.Inside.Copying.{IsNoName};
-ghost use Rattle.dnw_signed.specs.DataPointers.{FieldFollows, IsNoField, TakesDataPointers};
+ghost use Rattle.dnw_record.specs.DataPointers.{FieldFollows, IsNoField, TakesDataPointers};
 
+use crate::record_ref::RecordRef;
 use dnw_base::decoder::BinDecoder;
 use dnw_data::field::Field;
 use dnw_data::kind::Kind;
 use dnw_name::name_ref::NameRef;
 use dnw_name_read::walk::ReadSteps;
-use dnw_record::record_ref::RecordRef;
 
 /// Takes the compression pointers that the names in a record's data follow from those that are `left`. Returns how many are left
 /// then, or `None` if they are too few.
