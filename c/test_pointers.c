@@ -150,15 +150,50 @@ static void counts_in_order(void)
     EXPECT(dnw_zone_digest(BYTES("\000"), input, input_len, 1, output, ROOM, &len) == DNW_RESERVED_OCTET);
 }
 
+/* The head of a response with so many answers, of which the first has a chain of so many pointers. Its id is 0, which is the root. */
+static size_t begin_response(size_t answers, size_t pointers)
+{
+    input_len = 0;
+    put("\000\000\200\000\000\000", 6);
+    put_word(answers);
+    put("\000\000\000\000", 4);
+    put("", 1);
+    put_fields(DNW_TYPE_NULL, 2 * pointers);
+    put_chain(pointers);
+    return input_len - 2;
+}
+
+static uint32_t packs(size_t count, bool of_owner, bool of_data)
+{
+    struct dnw_packed packed = {7, false};
+    put_servers(count, begin_response(count + 1, 511), of_owner, of_data);
+    uint32_t answer = dnw_message_pack(input, input_len, 65535, output, ROOM, &packed);
+    EXPECT(answer == DNW_DONE || packed.len == 7);
+    return answer;
+}
+
+/* The owners are counted when the message is read, and the names in data apart from them. */
+static void counts_pointers_of_a_message(void)
+{
+    EXPECT(packs(128, true, false) == DNW_DONE);
+    EXPECT(packs(129, true, false) == DNW_TOO_MANY_POINTERS);
+    EXPECT(packs(128, false, true) == DNW_DONE);
+    EXPECT(packs(129, false, true) == DNW_TOO_MANY_POINTERS);
+    EXPECT(packs(128, true, true) == DNW_DONE);
+    EXPECT(packs(4096, false, false) == DNW_DONE);
+}
+
 static double seconds_since(clock_t start)
 {
     return (double)(clock() - start) / CLOCKS_PER_SEC;
 }
 
-/* A megabyte of names, each of which follows 8,191 pointers. Without a limit these are four billion, which take a minute. */
+/* A megabyte of names, each of which follows 8,191 pointers. Without a limit these are four billion, which take a minute. A message
+   of 64 KB that takes an eighth of a second without a limit is read a hundred times. */
 static void refuses_a_megabyte_at_once(void)
 {
     struct dnw_written_names written;
+    struct dnw_packed packed;
     size_t len = 7;
     clock_t start = clock();
     input_len = 0;
@@ -176,6 +211,9 @@ static void refuses_a_megabyte_at_once(void)
     put_servers((MEGABYTE - input_len) / 14, input_len - 2, true, true);
     EXPECT(dnw_signed_octets(input, input_len, 0, 0, output, ROOM, &len) == DNW_TOO_MANY_POINTERS);
     EXPECT(dnw_zone_digest(BYTES("\000"), input, input_len, 1, output, ROOM, &len) == DNW_TOO_MANY_POINTERS);
+    put_servers(3808, begin_response(3809, 8000), false, true);
+    for (int n = 0; n < 100; n++)
+        EXPECT(dnw_message_pack(input, input_len, 65535, output, ROOM, &packed) == DNW_TOO_MANY_POINTERS);
     EXPECT(seconds_since(start) < 5);
 }
 
@@ -184,6 +222,7 @@ int main(void)
     counts_pointers_of_names();
     counts_pointers_of_records();
     counts_in_order();
+    counts_pointers_of_a_message();
     refuses_a_megabyte_at_once();
     return 0;
 }

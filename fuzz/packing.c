@@ -111,6 +111,28 @@ static uint32_t write_copy(const uint8_t *message, size_t len, size_t most, cons
     return DNW_DONE;
 }
 
+/* Returns true if the names in the data of all records follow no more pointers than are allowed. */
+static bool follows_few(const uint8_t *message, size_t len, const struct dnw_message *read)
+{
+    size_t left = DNW_MAX_POINTERS, at = read->answers;
+    for (size_t n = (size_t)read->answer_count + read->authority_count + read->additional_count; n > 0; n--) {
+        struct model_name name;
+        struct dnw_record record;
+        struct dnw_field field;
+        CHECK(model_record(message, len, at, &name, &record) == DNW_DONE);
+        struct dnw_fields fields = {record.data_offset, 0};
+        while (model_next(message, record.end, record.data_offset, record.record_class, record.record_type, &fields, &field) == DNW_DONE &&
+               field.kind != DNW_FIELD_END) {
+            size_t count = field.kind == DNW_FIELD_NAME ? model_pointers(message, field.offset) : 0;
+            if (count > left)
+                return false;
+            left -= count;
+        }
+        at = record.end;
+    }
+    return true;
+}
+
 static uint32_t model_pack(const uint8_t *message, size_t len, size_t most, struct dnw_packed *packed)
 {
     struct dnw_message read;
@@ -121,6 +143,8 @@ static uint32_t model_pack(const uint8_t *message, size_t len, size_t most, stru
         return DNW_NO_ROOM;
     if (answer == DNW_DONE)
         answer = dnw_edns_read(message, len, DNW_MAX_POINTERS, &edns);
+    if (answer == DNW_DONE && !follows_few(message, len, &read))
+        return DNW_TOO_MANY_POINTERS;
     return answer == DNW_DONE ? write_copy(message, len, most, &read, packed) : answer;
 }
 

@@ -330,12 +330,10 @@ struct dnw_packed {
 
    It fails as dnw_message_read with DNW_MAX_POINTERS if the message is not complete, and as dnw_edns_read if its EDNS
    is not valid. If the data of a record are not valid, it fails as dnw_field_next does at the first wrong field. It
-   fails with DNW_NO_ROOM if the buffer has no room for a header; with DNW_MESSAGE_TOO_LONG if the header, the questions
-   and the records that are never left out have no room; and with DNW_NO_MEMORY. If it fails, octets of the buffer may
-   have changed.
-
-   The pointers of names in record data do not count towards DNW_MAX_POINTERS. The slowest message that we know of, of
-   65,528 octets with 3,808 names in data that follow 8,000 pointers each, takes an eighth of a second. */
+   fails with DNW_TOO_MANY_POINTERS if the names in the data of the records, each read up to the first wrong field, follow
+   more than DNW_MAX_POINTERS in all; with DNW_NO_ROOM if the buffer has no room for a header; with DNW_MESSAGE_TOO_LONG if
+   the header, the questions and the records that are never left out have no room; and with DNW_NO_MEMORY. If it fails,
+   octets of the buffer may have changed. */
 uint32_t dnw_message_pack(const uint8_t *message, size_t message_len, uint16_t max_size, uint8_t *packed, size_t packed_size,
                           struct dnw_packed *result);
 

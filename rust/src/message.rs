@@ -254,8 +254,8 @@ impl<'a> Message<'a> {
     ///
     /// The errors of [`edns`](Message::edns); those of [`Record::fields`] if the data of a record are not valid;
     /// `MessageTooLong` if the header, the questions and the records that are never left out have more than `max_size`
-    /// octets; `TooManyPointers` if the names follow more than 65,536 compression pointers, which
-    /// [`read_limited`](Message::read_limited) may have allowed; or `NoMemory`.
+    /// octets; `TooManyPointers` if the names in the data follow more than 65,536 compression pointers, or the others do,
+    /// which [`read_limited`](Message::read_limited) may have allowed; or `NoMemory`.
     ///
     /// ```
     /// let octets = b"\0\0\x84\0\0\x01\0\x01\0\0\0\0\x01b\0\0\x05\0\x01\x01b\0\0\x05\0\x01\0\0\0\0\0\x05\x01a\x01b\0";

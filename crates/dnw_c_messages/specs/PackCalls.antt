@@ -9,7 +9,7 @@ use Rattle.dnw_message_read.specs.Messages.{FailsMessage, MessageAt, MessageValu
 use Rattle.dnw_message_read.specs.declared.error.MessageError.{MessageError}
 use Rattle.dnw_message_writer.specs.Copying.{CopiesMessage, FailsToCopyMessage}
 use Rattle.dnw_message_writer.specs.declared.copying.CopyError.{CopyError}
-use Rattle.dnw_message_writer.specs.declared.copying.CopyError.TheVariants.{Data, Edns, Memory, Write}
+use Rattle.dnw_message_writer.specs.declared.copying.CopyError.TheVariants.{Data, Edns, Memory, TooManyPointers, Write}
 use Rattle.dnw_message_writer.specs.declared.state.WriterState.{WriterState}
 use Rattle.dnw_c_messages.specs.EdnsCalls.{of_edns}
 use Rattle.dnw_c_messages.specs.MessageCalls.{of_message}
@@ -21,11 +21,12 @@ use Rattle.dnw_c_messages.specs.declared.packed.PackedMessage.{PackedMessage}
 abbrev pub IsReadMessage : List ℕ → MessageValue → Type 0
 IsReadMessage octets m = (k : ℕ) × MessageAt octets m k × (k ≤ max_pointers)
 
--- why a message is not copied: a field of the data of a record, EDNS, an item that has no room, or memory
+-- why a message is not copied: a field of the data of a record, EDNS, an item that has no room, too many pointers, or memory
 abbrev pub of_copy : CopyError → Failure
 of_copy (Data offset error) = of_decode error.cause
 of_copy (Edns error) = of_edns error
 of_copy (Write error) = of_write error
+of_copy TooManyPointers = why.TooManyPointers
 of_copy Memory = why.NoMemory
 
 -- The octets begin with a message, and it is copied, in at most so many octets.

@@ -65,6 +65,7 @@ fn of_copy(error: &CopyError) -> Failure
         CopyError::Data { offset: _, error } => of_decode(&error.cause),
         CopyError::Edns(error) => of_edns(error),
         CopyError::Write(error) => of_write(error),
+        CopyError::TooManyPointers => Failure::TooManyPointers,
         CopyError::Memory => Failure::NoMemory,
     }
 }

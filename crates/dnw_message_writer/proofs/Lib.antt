@@ -24,6 +24,7 @@ pub mod Replying
 pub mod Splitting
 pub mod Stands
 pub mod StandsBefore
+pub mod Taken
 pub mod Turning
 pub mod WholeNames
 pub mod Wholes

@@ -11,10 +11,11 @@ use Rattle.dnw_record.specs.Records.{RecordValue}
 use Rattle.dnw_message_read.specs.Messages.{QueryValue}
 use Rattle.dnw_message_writer.specs.Copying.{AreASet, AreOfOneSet, CopiesSets, CopyFits, copied_past, EndsBefore, FailsSets, FailsToAddCopy, FailsToAddQuery, StopsAmong, StopsInSet, after_set, at_once, copied_form, held_in, is_held, no_room, none_left, one_set, query_form, sets_of}
 use Rattle.dnw_message_writer.specs.Inside.CopiedSets.{AddsFirstSet}
+use Rattle.dnw_message_writer.specs.Inside.Taken.{IsCopiedIn}
 use Rattle.dnw_message_writer.specs.Inside.Turns.{KeptCount}
 use Rattle.dnw_message_writer.specs.Data.{AreOfData}
 use Rattle.dnw_message_writer.specs.Hints.{slot_of}
-use Rattle.dnw_message_writer.specs.Items.{ItemForm, question_form, question_past, record_form}
+use Rattle.dnw_message_writer.specs.Items.{ItemForm, question_form, question_past, record_form, record_past}
 use Rattle.dnw_message_writer.specs.Listed.{data_form, data_past}
 use Rattle.dnw_message_writer.specs.Sets.{AddsSet}
 use Rattle.dnw_message_writer.specs.States.{AddsItem, FailsToAdd}
@@ -228,26 +229,22 @@ module _ (s : Section) (xs : List RecordValue) (first : WriterState) (old : List
 
 -- ---- one record
 
-pub data_added : (s : Section) (w v : WriterState) (m n : List ℕ) (owner : List (List ℕ)) (t c l : ℕ) (own : List ℕ) (xs : List Piece)
-    → AreOfData (fields_of c t own) own xs
-    → AddsItem s (record_form slot_of owner t c l xs) w m v n
-    → AddsItem s (data_form owner t c l own) w m v n
-data_added s w v m n owner t c l own xs of (octets, hints, is, limit, room, new_is, after_is) = (octets, hints, (xs, of, is), limit, room, new_is, after_is)
-
-module _ (s : Section) (x : RecordValue) (own : List ℕ) (owner : List (List ℕ)) (t c l : ℕ) (owner_is : owner ≡ x.owner) (t_is : t ≡ type_code x.record_type)
-    (c_is : c ≡ class_code x.class) (l_is : l ≡ x.ttl) (copies : Copies (record_kinds x) (data_start x) own) where
-  pub copy_added : (w v : WriterState) (m n : List ℕ) → (t < 2 ^ 16) × (c < 2 ^ 16) × (l < 2 ^ 32) × AreLabels owner
-      → AddsItem s (data_form owner t c l own) w m v n → AddsItem s (copied_form x) w m v n
-  copy_added w v m n fits added =
+module _ (s : Section) (x : RecordValue) (xs : List Piece) (copied : IsCopiedIn x xs) (owner : List (List ℕ)) (t c l : ℕ) (owner_is : owner ≡ x.owner)
+    (t_is : t ≡ type_code x.record_type) (c_is : c ≡ class_code x.class) (l_is : l ≡ x.ttl) where
+  pub pieces_added : (w v : WriterState) (m n : List ℕ) → (t < 2 ^ 16) × (c < 2 ^ 16) × (l < 2 ^ 32) × AreLabels owner
+      → AddsItem s (record_form slot_of owner t c l xs) w m v n → AddsItem s (copied_form x) w m v n
+  pieces_added w v m n fits added =
       let f : CopyFits x = rw (owner_is, t_is, c_is, l_is) at fits in
-      let (octets, hints, is, limit, room, new_is, after_is) : AddsItem s (data_form x.owner (type_code x.record_type) (class_code x.class) x.ttl own) w m v n =
+      let (own, copies, of) = copied in
+      let (octets, hints, is, limit, room, new_is, after_is) : AddsItem s (record_form slot_of x.owner (type_code x.record_type) (class_code x.class) x.ttl xs) w m v n =
       rw (owner_is, t_is, c_is, l_is) at added in
-      (octets, hints, (f, own, copies, is), limit, room, new_is, after_is)
+      (octets, hints, (f, own, copies, (xs, of, is)), limit, room, new_is, after_is)
 
-  pub copy_past : (w : WriterState) (m : List ℕ) (e : WriteError) → FailsToAdd s (data_past owner t c l own) w m e → FailsToAdd s (copied_past x) w m e
-  copy_past w m e fails =
-      let f : FailsToAdd s (data_past x.owner (type_code x.record_type) (class_code x.class) x.ttl own) w m e = rw (owner_is, t_is, c_is, l_is) at fails in
-      elim f [ inl first ↦ inl first | inr (limit, past, is) ↦ inr (limit, (own, copies, past), is) ]
+  pub pieces_past : (w : WriterState) (m : List ℕ) (e : WriteError) → FailsToAdd s (record_past slot_of owner t c l xs) w m e → FailsToAdd s (copied_past x) w m e
+  pieces_past w m e fails =
+      let (own, copies, of) = copied in
+      let f : FailsToAdd s (record_past slot_of x.owner (type_code x.record_type) (class_code x.class) x.ttl xs) w m e = rw (owner_is, t_is, c_is, l_is) at fails in
+      elim f [ inl first ↦ inl first | inr (limit, past, is) ↦ inr (limit, (own, copies, (xs, of, past)), is) ]
 
 -- ---- one question
 

@@ -1,5 +1,5 @@
 -- Data that are taken apart, field by field.
-use Rattle.std.proofs.Common.{◌≡◌, ℕ, ◌+◌, ◌-◌, ◌==◌, ◌<◌, ◌≤◌, Bool, true, false, None, List, [], ◌∷◌, ◌++◌, length, take, drop, inl, inr, refl, sym, ap, ◌∙◌, subst, arith}
+use Rattle.std.proofs.Common.{◌≡◌, ℕ, ◌+◌, ◌-◌, ◌==◌, ◌<◌, ◌≤◌, Bool, true, false, None, Some, List, [], ◌∷◌, ◌++◌, length, take, drop, inl, inr, refl, sym, ap, ◌∙◌, subst, append_assoc, arith}
 use Rattle.std.specs.Prelude.{◌&&◌, ◌||◌, nat_le, not, slice_index}
 use Rattle.std.specs.List.{flat_map}
 use Rattle.std.proofs.lemmas.Bool.{cases_Bool, eqb-true, leb-true}
@@ -15,6 +15,7 @@ use Rattle.dnw_data.specs.declared.kind.NameForm.TheVariants.{Compressible, Lowe
 use Rattle.dnw_data.specs.Fields.{FailsField, TakesField, own_at}
 use Rattle.dnw_data.specs.Table.{Row, a6, a6_fields, fields_elsewhere, fields_in, fields_in_internet, fields_of, fields_of_some, is_internet_type, is_like_internet, may_lack_data, table}
 use Rattle.dnw_data.specs.Values.{FieldValue, own_fault, own_size}
+use Rattle.dnw_data.proofs.Rows.{fields_hold}
 use Rattle.dnw_name_read.proofs.Takes.{TakesName_unique}
 use Rattle.dnw_record.specs.DataPieces.{ArePiecesOf, DataPiece, IsData, IsPieceOf, name_piece, octets_of, octets_piece, piece_octets}
 use Rattle.dnw_record.specs.DataCopies.{alone}
@@ -141,7 +142,7 @@ data_over octets (piece ∷ pieces, has) = absurd has.are
 -- ---- pieces
 
 -- the names of the fields that follow one that is none to compress
-passed : (at : ℕ) (kind : Kind) (piece : DataPiece) (fields : List DataPiece) (rest : List ℕ) → IsPieceOf kind piece rest → is_to_compress kind ≡ false
+pub passed : (at : ℕ) (kind : Kind) (piece : DataPiece) (fields : List DataPiece) (rest : List ℕ) → IsPieceOf kind piece rest → is_to_compress kind ≡ false
     → names_to_compress at (piece ∷ fields) ≡ names_to_compress (at + length (piece_octets piece)) fields
 passed at kind (octets_piece own) fields rest is other = refl
 passed at (kinds.Name Compressible) (name_piece form ls) fields rest is other = absurd cc
@@ -223,55 +224,16 @@ more_pieces ks kind others split is =
     let found : are_to_compress (kind ∷ others) ≡ true = ap are_to_compress (sym split) ∙ is in
     ap most_pieces split ∙ rw found refl
 
-abbrev few : List Row → Bool
-few [] = true
-few (row ∷ rows) = nat_le (most_pieces row.fields) 3 && few rows
+abbrev few : List Kind → Bool
+few ks = nat_le (most_pieces ks) 3
 
-few_in : (rows : List Row) (code : ℕ) → few rows ≡ true → most_pieces (fields_in rows code) ≤ 3
-few_in [] code are = omega arith
-few_in (row ∷ rows) code are = elim (cases_Bool (nat_le (most_pieces row.fields) 3)) [
-  | inr long ↦ let wrong : false ≡ true = rw long at are in absurd cc
-  | inl short ↦ elim (cases_Bool (row.code == code)) [
-    | inl here ↦
-        let is : fields_in (row ∷ rows) code ≡ row.fields = rw (here, fields_in) refl in
-        omega (arith, ap most_pieces is, leb-true (most_pieces row.fields) 3 short)
-    | inr there ↦
-        let is : fields_in (row ∷ rows) code ≡ fields_in rows code = rw (there, fields_in) refl in
-        omega (arith, ap most_pieces is, few_in rows code (rw short at are))
-  ]
-]
-
-few_internet : (code : ℕ) (octets : List ℕ) → most_pieces (fields_in_internet code octets) ≤ 3
-few_internet code octets = elim (cases_Bool (code == a6)) [
-  | inl is ↦ rw is (few_a6 (slice_index octets 0))
-  | inr other ↦ rw other (few_in table code refl)
-]
-  where
-    few_a6 : (prefix : ℕ) → most_pieces (a6_fields prefix) ≤ 3
-    few_a6 prefix = elim (cases_Bool (prefix == 0)) [
-      | inl none ↦ rw none (omega arith)
-      | inr some ↦ rw some (omega arith)
-    ]
-
-few_elsewhere : (class code : ℕ) → most_pieces (fields_elsewhere class code) ≤ 3
-few_elsewhere class code = elim (cases_Bool (class == 3 && code == 1)) [
-  | inl is ↦ rw is (omega arith)
-  | inr other ↦ rw other (omega arith)
-]
-
-few_some : (class code : ℕ) (octets : List ℕ) → most_pieces (fields_of_some class code octets) ≤ 3
-few_some class code octets = elim (cases_Bool (is_like_internet class || not (is_internet_type code))) [
-  | inl like ↦ rw like (few_internet code octets)
-  | inr other ↦ rw other (few_elsewhere class code)
-]
+few_a6 : (prefix : ℕ) → few (a6_fields prefix) ≡ true
+few_a6 prefix = elim (cases_Bool (prefix == 0)) [ inl none ↦ rw none refl | inr some ↦ rw some refl ]
 
 pub few_pieces : (class code : ℕ) (octets : List ℕ) → most_pieces (fields_of class code octets) ≤ 3
-unfolding fields_of
-few_pieces class code [] = elim (cases_Bool (may_lack_data class code)) [
-  | inl may ↦ rw may (omega arith)
-  | inr must ↦ rw must (few_some class code [])
-]
-few_pieces class code (octet ∷ octets) = few_some class code (octet ∷ octets)
+few_pieces class code octets =
+    leb-true (most_pieces (fields_of class code octets)) 3
+    (fields_hold few (record { none = refl; octets = refl; chaos = refl; six = few_a6; rows = refl }) class code octets)
 
 -- ---- late types
 

@@ -1,12 +1,15 @@
 -- Records and messages that were read, written again (RFC 2181, sections 5 and 9; RFC 6891, section 6.1.1).
-use Rattle.std.specs.Prelude.{◌≡◌, ◌≢◌, ℕ, ◌+◌, ◌/◌, ◌<◌, ◌≤◌, ◌^◌, ◌==◌, ◌&&◌, ◌||◌, ◌⊎◌, nat_le, not, min, if◌then◌else◌, Bool, true, false, List, [], ◌∷◌, ◌++◌, filter, length, take}
+use Rattle.std.specs.Prelude.{◌≡◌, ◌≢◌, ℕ, None, Some, ◌+◌, ◌/◌, ◌<◌, ◌≤◌, ◌^◌, ◌==◌, ◌&&◌, ◌||◌, ◌⊎◌, nat_le, not, min, if◌then◌else◌, Bool, true, false, List, [], ◌∷◌, ◌++◌, filter, length, take}
 use Rattle.std.specs.List.{AllByRecursion}
 use Rattle.dnw_base.specs.DnsClasses.{class_code}
+use Rattle.dnw_base.specs.Limits.{max_pointers}
 use Rattle.dnw_base.specs.Names.{AreLabels, encoded_size, lower}
 use Rattle.dnw_base.specs.RecordTypes.{type_code}
 use Rattle.dnw_record.specs.DataCopies.{Copies, FailsToCopy, data_start, record_kinds}
+use Rattle.dnw_record.specs.DataPointers.{TakesAllPointers}
 use Rattle.dnw_record.specs.Records.{RecordValue, data_octets}
 use Rattle.dnw_record.specs.declared.rdata.RDataError.TheVariants.{Field}
+use Rattle.dnw_message_read.specs.DataPointers.{records_of}
 use Rattle.dnw_message_read.specs.Headers.{flags_of}
 use Rattle.dnw_message_read.specs.Edns.{FailsEdns}
 use Rattle.dnw_message_read.specs.Messages.{MessageValue, QueryValue}
@@ -56,6 +59,7 @@ FailsToAddCopy s x w m (errors.Data offset error) =
     (offset ≡ x.start) × FailsToCopy (record_kinds x) (data_start x) (Field error)
 FailsToAddCopy s x w m (errors.Edns error) = ⊥
 FailsToAddCopy s x w m (errors.Write error) = FailsToAdd s (copied_past x) w m error
+FailsToAddCopy s x w m errors.TooManyPointers = ⊥
 FailsToAddCopy s x w m errors.Memory = Unit {0}
 
 -- So is a question.
@@ -196,8 +200,13 @@ pub record CopiesSections (x : MessageValue) (w : WriterState) (m : List ℕ) (v
 abbrev pub CopiesHeld : MessageValue → WriterState → List ℕ → WriterState → List ℕ → Type 0
 CopiesHeld x w m v n = AddsSet Additionals copied_form (held_in x.additionals) (record w { reserved = 0 }) m v n
 
+-- The names in the data of its records follow so many pointers at most.
+abbrev pub FollowsFew : MessageValue → Type 0
+FollowsFew x = (left : ℕ) × TakesAllPointers (records_of x) max_pointers (Some left)
+
 -- A message is written again, in at most so many octets. If a record is missing, TC is set.
 pub record CopiesMessage (x : MessageValue) (max_size : ℕ) (old : List ℕ) (w : WriterState) (new : List ℕ) : Type 0 where
+  pub few : FollowsFew x
   pub asked : WriterState
   pub asked_by : List ℕ
   pub questions : CopiesQuestions x max_size old asked asked_by
@@ -237,11 +246,12 @@ abbrev pub FailsHeld : MessageValue → WriterState → List ℕ → CopyError �
 FailsHeld x w m e =
     StopsAmong Additionals copied_form (FailsToAddCopy Additionals) (held_in x.additionals) (record w { reserved = 0 }) m e
 
--- What it says by EDNS breaks a rule, or it has no room for its header, its questions or the records that it has to have, or the data
+-- What it says by EDNS breaks a rule, or names in its data follow more pointers than are allowed, or it has no room for its header, its questions or the records that it has to have, or the data
 -- of a record are none of its class and type, or memory ran out.
 abbrev pub FailsToCopyMessage : MessageValue → ℕ → List ℕ → CopyError → Type 0
 FailsToCopyMessage x max_size old e =
     ((error : EdnsError) × FailsEdns x error × (e ≡ errors.Edns error))
+    ⊎ (TakesAllPointers (records_of x) max_pointers None × (e ≡ errors.TooManyPointers))
     ⊎ (((max_size < first_item) ⊎ (length old < first_item)) × (e ≡ errors.Write NoRoom))
     ⊎ FailsQuestions x max_size old e
     ⊎ ((w : WriterState) × (m : List ℕ) × CopiesQuestions x max_size old w m

@@ -5,4 +5,5 @@ pub mod Fitting
 pub mod Going
 pub mod Splitting
 pub mod Standing
+pub mod Taken
 pub mod Turns

@@ -1,15 +1,14 @@
 //! Records and messages that were read, written again.
 ghost use Rattle.std.specs.Prelude.{◌≡◌, ◌∷◌, ◌<◌, ◌≤◌, ◌^◌, ◌↔◌, [], length, replicate, take, IfErr, IfOk, IfSome, IsTrue, MatchOption, OnErr, OnOk};
 ghost use Rattle.dnw_base.specs.Names.{AreLabels, lower};
-ghost use Rattle.dnw_data.specs.Table.{fields_of};
-ghost use Rattle.dnw_record.specs.DataPieces.{IsData};
+ghost use Rattle.dnw_record.specs.DataCopies.{Copies, data_start, record_kinds};
 ghost use Rattle.dnw_message_read.specs.Headers.{flags_of};
-ghost use Rattle.dnw_message_writer.specs.Copying.{AreOfOneSet, CopiesHeld, CopiesMessage, CopiesQuestions, CopiesSections, CopiesSets, FailsHeld, FailsQuestions, FailsSections, FailsSets, FailsToAddCopy, FailsToAddQuery, FailsToCopyMessage, StopsAmong, StopsInSet, copied_form, covers_no_type, held_from, is_answer, is_held, is_missing, own_octets, query_form, sets_of, signs_message};
+ghost use Rattle.dnw_message_writer.specs.Copying.{AreOfOneSet, CopiesHeld, CopiesMessage, CopiesQuestions, CopiesSections, CopiesSets, FailsHeld, FailsQuestions, FailsSections, FailsSets, FailsToAddCopy, FailsToAddQuery, FailsToCopyMessage, StopsAmong, StopsInSet, copied_form, covers_no_type, held_from, copied_past, is_answer, is_held, is_missing, own_octets, query_form, sets_of, signs_message};
 ghost use Rattle.dnw_message_writer.specs.Inside.CopiedSets.{AddsFirstSet, first_of};
+ghost use Rattle.dnw_message_writer.specs.Inside.Taken.{IsCopiedIn};
 ghost use Rattle.dnw_message_writer.specs.Inside.Turns.{KeptCount};
 ghost use Rattle.dnw_message_writer.specs.Hints.{slot_of};
-ghost use Rattle.dnw_message_writer.specs.Items.{question_form, question_past};
-ghost use Rattle.dnw_message_writer.specs.Listed.{data_form, data_past};
+ghost use Rattle.dnw_message_writer.specs.Items.{question_form, question_past, record_form, record_past};
 ghost use Rattle.dnw_message_writer.specs.Sets.{AddsSet};
 ghost use Rattle.dnw_message_writer.specs.States.{AddsItem, BeginsMessage, FailsToAdd};
 ghost use Rattle.dnw_message_writer.specs.declared.section.Section.TheVariants as Sections;
@@ -17,12 +16,14 @@ ghost use Rattle.dnw_message_writer.specs.declared.section.Section.TheVariants a
 use crate::data::pieces_of;
 use crate::hints::SLOTS;
 use crate::names::put_at;
+use crate::pieces::Piece;
 use crate::reply::field_at;
 use crate::section::{Section, WriteError};
 use crate::set::{cut_off, two_at};
 use crate::standing::FIRST_ITEM;
 use crate::state::WriterState;
-use dnw_base::limits::MAX_NAME;
+use crate::taking::{MOST_NAMES, pieces_in};
+use dnw_base::limits::{MAX_NAME, MAX_POINTERS};
 use dnw_base::record_type::RecordType;
 use dnw_data::fields::FieldError;
 use dnw_message_read::edns::EdnsError;
@@ -54,6 +55,9 @@ pub enum CopyError {
     /// An item was not added.
     #[error("{0}")]
     Write(WriteError),
+    /// The names in the data of the records follow more pointers than are allowed.
+    #[error("the names in the data follow too many pointers")]
+    TooManyPointers,
     /// An allocation failed.
     #[error("out of memory")]
     Memory,
@@ -79,9 +83,33 @@ impl WriterState {
     /// Adds a record of another message to a section, or nothing of it. Names in its data are followed through their pointers, and
     /// those that may be compressed are (RFC 3597, section 4).
     ///
-    /// It fails with `Data` if its data are no fields of its class and type, and with `Memory` if an allocation fails.
+    /// It fails with `Data` if its data are no fields of its class and type, and with `Memory` if an allocation fails. It allocates
+    /// only if a name in the data that may not be compressed has a pointer.
     #[inline(always)]
     pub fn record_of(
+        &mut self,
+        alloc: Global,
+        message: &mut [u8],
+        section: Section,
+        item: &RecordRef<'_>,
+    ) -> Result<(), CopyError>
+        ensures ok { OnOk result (AddsItem section (copied_form item.now) self.old message.old self.new message.new) }
+        ensures err { IfErr result (FailsToAddCopy section item.now self.old message.old) }
+        ensures same { OnErr result ((self.new ≡ self.old) × (take self.old.end message.new ≡ take self.old.end message.old)) }
+    {
+        let mut rooms = [[0; MAX_NAME]; MOST_NAMES];
+        let Some(pieces) = pieces_in(item, &mut rooms) else {
+            return self.copy_of(alloc, message, section, item);
+        };
+        match self.add_pieces(message, section, item, pieces.as_slice()) {
+            Ok(()) => Ok(()),
+            Err(error) => Err(CopyError::Write(error)),
+        }
+    }
+
+    /// Adds a record of another message, with a copy of its data, or nothing of it.
+    #[inline(never)]
+    fn copy_of(
         &mut self,
         alloc: Global,
         message: &mut [u8],
@@ -100,27 +128,64 @@ impl WriterState {
             }
             Err(RDataError::Memory) => return Err(CopyError::Memory),
         };
+        match self.add_copy(message, section, item, &data) {
+            Ok(()) => Ok(()),
+            Err(error) => Err(CopyError::Write(error)),
+        }
+    }
+
+    /// Adds a record whose data have this copy, or nothing of it.
+    fn add_copy(
+        &mut self,
+        message: &mut [u8],
+        section: Section,
+        item: &RecordRef<'_>,
+        data: &RData,
+    ) -> Result<(), WriteError>
+        requires { (data.now.class ≡ item.now.class) × (data.now.record_type ≡ item.now.record_type)
+            × Copies (record_kinds item.now) (data_start item.now) data.now.octets }
+        ensures ok { OnOk result (AddsItem section (copied_form item.now) self.old message.old self.new message.new) }
+        ensures err { IfErr result (FailsToAdd section (copied_past item.now) self.old message.old) }
+        ensures same { OnErr result ((self.new ≡ self.old) × (take self.old.end message.new ≡ take self.old.end message.old)) }
+    {
+        let class = u16::from(data.class());
+        let record_type = u16::from(data.record_type());
+        let Some(pieces) = pieces_of(class, record_type, data.octets()) else {
+            unreachable!();
+        };
+        self.add_pieces(message, section, item, pieces.as_slice())
+    }
+
+    /// Adds a record whose data are these pieces, or nothing of it.
+    fn add_pieces(
+        &mut self,
+        message: &mut [u8],
+        section: Section,
+        item: &RecordRef<'_>,
+        pieces: &[Piece<'_>],
+    ) -> Result<(), WriteError>
+        requires { IsCopiedIn item.now pieces.now }
+        ensures ok { OnOk result (AddsItem section (copied_form item.now) self.old message.old self.new message.new) }
+        ensures err { IfErr result (FailsToAdd section (copied_past item.now) self.old message.old) }
+        ensures same { OnErr result ((self.new ≡ self.old) × (take self.old.end message.new ≡ take self.old.end message.old)) }
+    {
         let record_type = u16::from(item.record_type());
         let class = u16::from(item.class());
         let ttl = item.ttl();
-        let octets = data.octets();
-        let added = self.add_copy(
+        self.add_owned(
             message,
             section,
             item.owner(),
             record_type,
             class,
             ttl,
-            octets,
-        );
-        if let Err(error) = added {
-            return Err(CopyError::Write(error));
-        }
-        Ok(())
+            pieces,
+        )
     }
 
-    /// Adds a record with this owner and these data, or nothing of it.
-    fn add_copy(
+    /// Adds a record with this owner and these pieces, or nothing of it.
+    #[inline(always)]
+    fn add_owned(
         &mut self,
         message: &mut [u8],
         section: Section,
@@ -128,28 +193,17 @@ impl WriterState {
         record_type: u16,
         class: u16,
         ttl: u32,
-        octets: &[u8],
+        pieces: &[Piece<'_>],
     ) -> Result<(), WriteError>
-        requires { IsData (fields_of class record_type octets.now) octets.now }
-        ensures ok { OnOk result (AddsItem section (data_form owner.now record_type class ttl octets.now) self.old message.old self.new message.new) }
-        ensures err { IfErr result (FailsToAdd section (data_past owner.now record_type class ttl octets.now) self.old message.old) }
+        ensures ok { OnOk result (AddsItem section (record_form slot_of owner.now record_type class ttl pieces.now) self.old message.old self.new message.new) }
+        ensures err { IfErr result (FailsToAdd section (record_past slot_of owner.now record_type class ttl pieces.now) self.old message.old) }
         ensures same { OnErr result ((self.new ≡ self.old) × (take self.old.end message.new ≡ take self.old.end message.old)) }
         ensures fit { (record_type < 2 ^ 16) × (class < 2 ^ 16) × (ttl < 2 ^ 32) × AreLabels owner.now }
     {
-        let Some(pieces) = pieces_of(class, record_type, octets) else {
-            unreachable!();
-        };
         let mut room = [0; MAX_NAME];
         let _len = owner.encoded_len();
-        self.record(
-            message,
-            section,
-            owner.wire_labels(&mut room),
-            record_type,
-            class,
-            ttl,
-            pieces.as_slice(),
-        )
+        let labels = owner.wire_labels(&mut room);
+        self.record(message, section, labels, record_type, class, ttl, pieces)
     }
 
     /// Writes a message that was read again, with compression, in at most `max_size` octets: its header, its questions, and its
@@ -159,8 +213,9 @@ impl WriterState {
     /// section 9), unless it only goes with the answers of a response. Octets are held back for the records that the message has to
     /// have: an `OPT` record, and a signature of the message, TSIG or SIG(0). These come last, and are never left out.
     ///
-    /// It fails with `Edns` if the message breaks a rule of EDNS, as `MessageRef::edns` reports it; with `Data` if the data of a record
-    /// are no fields of its class and type; and with `Write` if the header, the questions and the records that it has to have have no
+    /// It fails with `Edns` if the message breaks a rule of EDNS, as `MessageRef::edns` reports it; with `TooManyPointers` if the names in
+    /// the data of its records follow more than 65,536 pointers in all; with `Data` if the data of a record are no fields of its class
+    /// and type; and with `Write` if the header, the questions and the records that it has to have have no
     /// room. If it fails, the state is unchanged, but the octets of the message may have changed.
     pub fn copy(
         &mut self,
@@ -195,6 +250,9 @@ impl WriterState {
         match source.opt() {
             Ok(_) => {}
             Err(error) => return Err(CopyError::Edns(error)),
+        }
+        if !source.data_follow_few(MAX_POINTERS) {
+            return Err(CopyError::TooManyPointers);
         }
         if max_size < FIRST_ITEM || message.len() < FIRST_ITEM {
             return Err(CopyError::Write(WriteError::NoRoom));

@@ -55,7 +55,7 @@ impl<'a> Pieces<'a> {
 
     /// Creates none.
     #[inline(always)]
-    fn new() -> Self
+    pub(crate) fn new() -> Self
         ensures { result ≡ [] }
     {
         Pieces {
@@ -65,7 +65,7 @@ impl<'a> Pieces<'a> {
 
     /// Adds one at the end.
     #[inline(always)]
-    fn push(&mut self, piece: Piece<'a>)
+    pub(crate) fn push(&mut self, piece: Piece<'a>)
         requires { length self.old < 3 }
         ensures { self.new ≡ self.old ++ piece.entry ∷ [] }
     {
@@ -124,7 +124,7 @@ fn put_whole<'a>(kinds: &[Kind], octets: &'a [u8], pieces: &mut Pieces<'a>) -> b
 }
 
 /// Adds the pieces of data with fields of these kinds, or returns `false` if the octets are no such data.
-fn split<'a>(kinds: &[Kind], octets: &'a [u8], pieces: &mut Pieces<'a>) -> bool
+pub(crate) fn split<'a>(kinds: &[Kind], octets: &'a [u8], pieces: &mut Pieces<'a>) -> bool
     requires few { length pieces.old + most_pieces kinds.now ≤ 3 }
     ensures are { IsTrue result → (xs : List Piece) × (pieces.new ≡ pieces.old ++ xs) × AreOfData kinds.now octets.now xs }
     ensures none { result ≡ false → IsData kinds.now octets.now → ⊥ }
@@ -152,14 +152,14 @@ fn split<'a>(kinds: &[Kind], octets: &'a [u8], pieces: &mut Pieces<'a>) -> bool
 }
 
 /// Returns `true` if a field of this kind is a name that may be compressed.
-fn is_to_compress(kind: Kind) -> bool
+pub(crate) fn is_to_compress(kind: Kind) -> bool
     ensures { result ≡ is_to_compress kind }
 {
     matches!(kind, Kind::Name(NameForm::Compressible))
 }
 
 /// Returns `true` if one of the kinds is that of a name that may be compressed.
-fn are_to_compress(kinds: &[Kind]) -> bool
+pub(crate) fn are_to_compress(kinds: &[Kind]) -> bool
     ensures { result ≡ are_to_compress kinds.now }
 {
     let Some((kind, others)) = kinds.split_first() else {
@@ -184,7 +184,7 @@ fn are_data(kinds: &[Kind], octets: &[u8]) -> bool
 
 /// Returns the octets of the field of this kind that the octets begin with.
 #[inline(always)]
-fn first_field(kind: Kind, octets: &[u8]) -> Option<&[u8]>
+pub(crate) fn first_field(kind: Kind, octets: &[u8]) -> Option<&[u8]>
     ensures some { IfSome result (λ own. HasField kind octets.now own.now) }
     ensures none { IfNone result (HasNoField kind octets.now) }
 {

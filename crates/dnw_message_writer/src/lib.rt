@@ -19,4 +19,5 @@ pub mod section;
 pub mod set;
 pub mod standing;
 pub mod state;
+mod taking;
 mod whole;
