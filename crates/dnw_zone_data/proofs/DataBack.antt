@@ -10,23 +10,23 @@ use Rattle.dnw_base.specs.DnsClasses.{class_code}
 use Rattle.dnw_base.specs.RecordTypes.{type_code}
 use Rattle.dnw_name_read.specs.ReadingLaws.{AreBytes}
 use Rattle.dnw_data.specs.declared.kind.Kind.{Kind}
-use Rattle.dnw_data.specs.declared.kind.Kind.TheVariants.{Shaped}
 use Rattle.dnw_data.specs.Table.{Row, a6, a6_fields, fields_elsewhere, fields_in, fields_in_internet, fields_of, fields_of_some, is_internet_type, is_like_internet, may_lack_data, table}
 use Rattle.dnw_data.specs.Values.{FieldValue}
-use Rattle.dnw_data.proofs.Rows.{Alike, alike_fields}
 use Rattle.dnw_data.proofs.Taking.{moves_on}
 use Rattle.dnw_record.specs.Records.{RecordValue}
 use Rattle.dnw_record.specs.RecordFields.{record_fields}
 use Rattle.dnw_zone_values.specs.Octets.{IsOctets}
 use Rattle.dnw_zone_values.proofs.ParamTextsBack.{drop_fit, take_fit}
 use Rattle.dnw_data.specs.FieldWires.{field_wire}
+use Rattle.dnw_zone_data.specs.declared.extent.Extent.{Extent}
+use Rattle.dnw_zone_data.specs.declared.extent.Extent.TheVariants.{All}
 use Rattle.dnw_zone_data.specs.declared.number_form.NumberForm.{NumberForm}
 use Rattle.dnw_zone_data.specs.declared.number_form.NumberForm.TheVariants.{Decimal}
 use Rattle.dnw_zone_data.specs.NumberForms.{first_form, number_forms, other_forms}
 use Rattle.dnw_zone_data.specs.Words.{is_end, word, after_spaces}
 use Rattle.dnw_zone_data.specs.Generic.{generic_mark, IsGeneric}
 use Rattle.dnw_base.specs.Limits.{max_data}
-use Rattle.dnw_zone_data.specs.Parsing.{takes_all, AreFieldTexts}
+use Rattle.dnw_zone_data.specs.Parsing.{extent_of, AreFieldTexts}
 use Rattle.dnw_zone_data.specs.Printing.{Prints, PrintsFields}
 use Rattle.dnw_zone_data.specs.DataTexts.{has_own_form, is_blank, stand_in, text_kinds, without_space, AreWire, IsFieldsText, IsOwnText, IsPlainData, IsTextOf}
 use Rattle.dnw_zone_data.specs.DataTextLaws.{DataComeBack, FieldComesBack, FollowsField}
@@ -36,11 +36,15 @@ use Rattle.dnw_zone_data.proofs.Items.{end_append}
 
 -- ---- the table
 
+abbrev takes_all : Extent → Bool
+takes_all All = true
+takes_all extent = false
+
 -- only the last field takes all words
 abbrev are_in_turn : List Kind → Bool
 are_in_turn [] = true
 are_in_turn (kind ∷ []) = true
-are_in_turn (kind ∷ next ∷ kinds) = not (takes_all kind) && are_in_turn (next ∷ kinds)
+are_in_turn (kind ∷ next ∷ kinds) = not (takes_all (extent_of kind)) && are_in_turn (next ∷ kinds)
 
 found : (test passes : Row → Bool) (rows : List Row) (other : Row) → list_all passes rows ≡ true → passes other ≡ true
     → passes (unwrap_or (find test rows) other) ≡ true
@@ -79,14 +83,14 @@ in_turn class code [] = elim (cases_Bool (may_lack_data class code)) [
 in_turn class code (x ∷ xs) = some_in_turn class code (x ∷ xs)
 
 -- nothing is printed after a field that takes all words
-turn_ends : (kind : Kind) (kinds : List Kind) (d : Decoder) (text : List ℕ) → are_in_turn (kind ∷ kinds) ≡ true → takes_all kind ≡ true
+turn_ends : (kind : Kind) (kinds : List Kind) (d : Decoder) (text : List ℕ) → are_in_turn (kind ∷ kinds) ≡ true → extent_of kind ≡ All
     → PrintsFields kinds d text → text ≡ []
 turn_ends kind [] d text turn all print = print.1
 turn_ends kind (next ∷ kinds) d text turn all print = let no = rw all at turn in absurd cc
 
 turn_rest : (kind : Kind) (kinds : List Kind) → are_in_turn (kind ∷ kinds) ≡ true → are_in_turn kinds ≡ true
 turn_rest kind [] turn = refl
-turn_rest kind (next ∷ kinds) turn = (and_parts (not (takes_all kind)) (are_in_turn (next ∷ kinds)) turn).1
+turn_rest kind (next ∷ kinds) turn = (and_parts (not (takes_all (extent_of kind))) (are_in_turn (next ∷ kinds)) turn).1
 
 -- ---- fields
 
@@ -139,16 +143,48 @@ same_start origin ways (kind ∷ kinds) text start (v ∷ values) e are = rw e a
 
 -- ---- data
 
--- octets that stand in for data that are printed are alike
-text_alike : (kinds : List Kind) (d : Decoder) (printed start : List ℕ) → has_own_form kinds ≡ true → PrintsFields kinds d printed → is_blank kinds printed ≡ false
-    → start ≡ after_spaces printed → Alike kinds (drop d.index d.bytes) (stand_in start)
-text_alike [] d printed start form (end, none) shown e =
+-- one has octets if the other has, as far as a list of kinds needs any
+abbrev AreThere : List Kind → List ℕ → List ℕ → Type 0
+AreThere [] a b = (a ≡ []) × (b ≡ [])
+AreThere (kind ∷ kinds) a b = b ≡ [] → a ≡ []
+
+-- the data of A6, of which the first octet says which fields they have, have no form of their own
+a6_lacks_form : (prefix : ℕ) → has_own_form (a6_fields prefix) ≡ false
+a6_lacks_form prefix = elim (cases_Bool (prefix == 0)) [ inl none ↦ rw none refl | inr some ↦ rw some refl ]
+
+same_some : (class code : ℕ) (a b : List ℕ) → has_own_form (fields_of_some class code a) ≡ true → fields_of_some class code b ≡ fields_of_some class code a
+same_some class code a b form = elim (cases_Bool (is_like_internet class || not (is_internet_type code))) [
+  | inr other ↦ rw other refl
+  | inl like ↦ elim (cases_Bool (code == a6)) [
+    | inr other ↦ rw (like, other) refl
+    | inl is ↦ let no : false ≡ true = sym (a6_lacks_form (slice_index a 0)) ∙ (rw (like, is) at form) in absurd cc
+  ]
+]
+
+some_there : (kinds : List Kind) (a : List ℕ) → AreThere kinds a [] → a ≡ []
+some_there [] a there = there.0
+some_there (kind ∷ kinds) a there = there refl
+
+same_fields : (class code : ℕ) (a b : List ℕ) → has_own_form (fields_of class code a) ≡ true → AreThere (fields_of class code a) a b
+    → fields_of class code b ≡ fields_of class code a
+unfolding fields_of
+same_fields class code [] [] form there = refl
+same_fields class code [] (y ∷ ys) form there = elim (cases_Bool (may_lack_data class code)) [
+  | inl may ↦ let none = (rw may at there).1 in absurd cc
+  | inr must ↦ rw must (same_some class code [] (y ∷ ys) (rw must at form))
+]
+same_fields class code (x ∷ xs) [] form there = let none = some_there (fields_of_some class code (x ∷ xs)) (x ∷ xs) there in absurd cc
+same_fields class code (x ∷ xs) (y ∷ ys) form there = same_some class code (x ∷ xs) (y ∷ ys) form
+
+-- octets that stand in for data that are printed are there if those are
+text_there : (kinds : List Kind) (d : Decoder) (printed start : List ℕ) → PrintsFields kinds d printed → is_blank kinds printed ≡ false
+    → start ≡ after_spaces printed → AreThere kinds (drop d.index d.bytes) (stand_in start)
+text_there [] d printed start (end, none) shown e =
     (nil_from_length (drop d.index d.bytes) (omega (arith, end, length-drop d.index d.bytes)), ap stand_in (e ∙ ap after_spaces none))
-text_alike (Shaped shape ∷ kinds) d printed start form prints shown e = absurd cc
-text_alike (kind ∷ kinds) d printed [] form prints shown e =
+text_there (kind ∷ kinds) d printed [] prints shown e =
     let blank : is_blank (kind ∷ kinds) printed ≡ true = ap (λ (xs : List ℕ). length xs == 0) (sym e) in
     let no : true ≡ false = sym blank ∙ shown in absurd cc
-text_alike (kind ∷ kinds) d printed (c ∷ cs) form prints shown e = λ none. absurd cc
+text_there (kind ∷ kinds) d printed (c ∷ cs) prints shown e = λ none. absurd cc
 
 own_back : (origin : Option NameValue) (r : RecordValue) (text : List ℕ) → AreBytes r.message → IsOwnText (record_fields r) text
     → (own : List ℕ) × IsPlainData r own
@@ -164,7 +200,7 @@ own_back origin r text h (form, printed, prints, shown, e) =
     let own = flat_map field_wire values in
     let start : after_spaces text ≡ after_spaces printed = ap after_spaces e ∙ no_space printed in
     let same : text_kinds fields text ≡ kinds =
-    alike_fields (class_code r.class) (type_code r.record_type) left (stand_in (after_spaces text)) (text_alike kinds d printed (after_spaces text) form prints shown start) in (
+    same_fields (class_code r.class) (type_code r.record_type) left (stand_in (after_spaces text)) form (text_there kinds d printed (after_spaces text) prints shown start) in (
       own,
       inl wire,
       elim (cases_lt max_data (length own)) [

@@ -28,6 +28,8 @@ use Rattle.dnw_zone_values.proofs.ParamTextsBack.{drop_fit, halves, octets_fit, 
 use Rattle.dnw_data.specs.FieldWires.{field_wire}
 use Rattle.dnw_zone_data.specs.DataTextLaws.{FieldComesBack}
 use Rattle.dnw_zone_data.proofs.FieldsBack.{first, u8_back, u16_back, u32_back, time_back, type_back, ipv4_back, string_back, tag_back, salt_back, hash_back, octets_back, text_back, strings_back}
+use Rattle.dnw_zone_data.proofs.GatewaysBack.{shaped_back}
+use Rattle.dnw_zone_data.proofs.NameListsBack.{names_back}
 use Rattle.dnw_zone_data.proofs.NamesBack.{name_back}
 use Rattle.dnw_zone_data.proofs.ParamsBack.{params_back}
 use Rattle.dnw_data.proofs.Codes.{code_back}
@@ -125,7 +127,7 @@ field_back kinds.Locator d value after h takes few =
 field_back (kinds.LongCounted shown) d value after h takes few =
     by_value (kinds.LongCounted shown) value (long_counted (drop 2 (own_at (kinds.LongCounted shown) d))) takes.2 (λ origin way text rest print end. absurd print)
 field_back (kinds.Shaped shape) d value after h takes few =
-    by_value (kinds.Shaped shape) value (shaped (record { shape = shape; octets = own_at (kinds.Shaped shape) d })) takes.2 (λ origin way text rest print end. absurd print)
+    let kind = kinds.Shaped shape in by_value kind value _ takes.2 (shaped_back shape (own_at kind d) (own_fit kind d h))
 field_back (kinds.Octets Text) d value after h takes few =
     let short = subst (λ (v : FieldValue). length (field_wire v) ≤ 65535) takes.2 few in
     by_value (kinds.Octets Text) value _ takes.2 (text_back _ (own_fit (kinds.Octets Text) d h, short))
@@ -141,8 +143,7 @@ field_back (kinds.List lists.Prefixes) d value after h takes few =
     let kind = kinds.List lists.Prefixes in
     by_value kind value (prefixes (items lists.Prefixes (own_at kind d))) takes.2 (λ origin way text rest print end. absurd print)
 field_back (kinds.List lists.Names) d value after h takes few =
-    let kind = kinds.List lists.Names in
-    by_value kind value (names (items lists.Names (own_at kind d))) takes.2 (λ origin way text rest print end. absurd print)
+    let kind = kinds.List lists.Names in by_value kind value _ takes.2 (names_back (own_at kind d) (own_fit kind d h))
 field_back (kinds.List lists.Texts) d value after h takes few =
     let kind = kinds.List lists.Texts in
     by_value kind value _ takes.2 (strings_back (own_at kind d) (own_fit kind d h) (omega (arith, own_len kind d takes.0, some (length (drop d.index d.bytes)))))

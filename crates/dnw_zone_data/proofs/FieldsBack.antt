@@ -33,9 +33,10 @@ use Rattle.dnw_zone_values.specs.Base32.{IsHash, is_base32, base32_text}
 use Rattle.dnw_zone_values.proofs.Identifiers.{hash}
 use Rattle.dnw_zone_values.proofs.ComeBack.{numbers, salt}
 use Rattle.dnw_zone_values.proofs.StringText.{string, text}
+use Rattle.dnw_zone_data.specs.declared.extent.Extent.TheVariants.{One}
 use Rattle.dnw_zone_data.specs.declared.number_form.NumberForm.{NumberForm}
 use Rattle.dnw_zone_data.specs.Words.{is_asterisk, is_end, quoted_len, word_len, word, after_word, after_spaces}
-use Rattle.dnw_zone_data.specs.Parsing.{takes_all, IsWord, AreStringWords, AreTexts, ReadsField}
+use Rattle.dnw_zone_data.specs.Parsing.{extent_of, IsWord, AreStringWords, AreTexts, ReadsField}
 use Rattle.dnw_zone_data.specs.Printing.{strings_text}
 use Rattle.dnw_zone_data.specs.DataTextLaws.{IsReadType, IsFieldReadBack, FieldComesBack}
 use Rattle.dnw_zone_data.specs.Generic.{generic_mark, hex_part}
@@ -44,7 +45,7 @@ use Rattle.dnw_zone_data.proofs.NumberFormsBack.{in_any_form}
 use Rattle.dnw_zone_data.proofs.Plain.{is_plain, plain_by_tests, all_plain, plain_starts, plain_word, plain_after, plain_utf8, plain_append, decimal_plain, hex_plain}
 
 -- a word is read as its field
-pub by_word : (origin : Option NameValue) (way : NumberForm) (kind : Kind) (printed w rest : List ℕ) (value : FieldValue) → takes_all kind ≡ false
+pub by_word : (origin : Option NameValue) (way : NumberForm) (kind : Kind) (printed w rest : List ℕ) (value : FieldValue) → extent_of kind ≡ One
     → printed ≡ 32 ∷ w → after_spaces (w ++ rest) ≡ w ++ rest → word (w ++ rest) ≡ w → after_word (w ++ rest) ≡ rest → IsWord origin way kind w value
     → w ≢ generic_mark → IsFieldReadBack origin way kind printed value rest
 by_word origin way kind printed w rest value one print begins whole left is other =
@@ -56,10 +57,10 @@ by_word origin way kind printed w rest value one print begins whole left is othe
 
 -- ---- plain words
 
-plain_other : (w : List ℕ) → all_plain w ≡ true → w ≢ generic_mark
+pub plain_other : (w : List ℕ) → all_plain w ≡ true → w ≢ generic_mark
 plain_other w plain e = let no : false ≡ true = ap all_plain (sym e) ∙ plain in cc
 
-pub plain_by : (origin : Option NameValue) (way : NumberForm) (kind : Kind) (printed w rest : List ℕ) (value : FieldValue) → takes_all kind ≡ false
+pub plain_by : (origin : Option NameValue) (way : NumberForm) (kind : Kind) (printed w rest : List ℕ) (value : FieldValue) → extent_of kind ≡ One
     → printed ≡ 32 ∷ w → all_plain w ≡ true → 0 < length w → is_end rest ≡ true → IsWord origin way kind w value
     → IsFieldReadBack origin way kind printed value rest
 plain_by origin way kind printed w rest value one print plain some end is =
@@ -291,7 +292,7 @@ pub first : (x : ℕ) (xs : List ℕ) → x < 256 → IsOctets xs → IsOctets (
 first x xs h k zero = h
 first x xs h k (suc i) = k i
 
-octets_parts : (a b : List ℕ) → IsOctets (a ++ b) → IsOctets a × IsOctets b
+pub octets_parts : (a b : List ℕ) → IsOctets (a ++ b) → IsOctets a × IsOctets b
 octets_parts [] b h = ((λ i. omega arith), h)
 octets_parts (x ∷ a) b h = let parts = octets_parts a b (λ i. h (suc i)) in (first x a (h 0) parts.0, parts.1)
 

@@ -9,12 +9,17 @@ pub mod GenericText
 pub mod Strings
 pub mod NumberKinds
 pub mod Rests
+pub mod NameSteps
+pub mod NameFronts
+pub mod GatewayWords
 pub mod FieldLists
 pub mod Identifiers
 pub mod FieldsBack
 pub mod NumberFormsBack
 pub mod NamesBack
 pub mod WordsBack
+pub mod GatewaysBack
+pub mod NameListsBack
 pub mod Items
 pub mod TypesBack
 pub mod ParamsBack

@@ -97,7 +97,7 @@ label_starts : (label xs : List ℕ) → 1 ≤ length label → after_spaces (la
 label_starts [] xs some = absurd (omega (arith, some))
 label_starts (o ∷ label) xs some = rw (append_assoc (name_octet o) (label_octets label) xs) (octet_starts o (label_octets label ++ xs))
 
-name_starts : (labels : List (List ℕ)) (rest : List ℕ) → AllByRecursion IsLabel labels → after_spaces (full_name_text labels ++ rest) ≡ full_name_text labels ++ rest
+pub name_starts : (labels : List (List ℕ)) (rest : List ℕ) → AllByRecursion IsLabel labels → after_spaces (full_name_text labels ++ rest) ≡ full_name_text labels ++ rest
 name_starts [] rest are = refl
 name_starts (label ∷ labels) rest are = rw (seam label labels rest) (label_starts label (46 ∷ (labels_text labels ++ rest)) are.0.not_empty)
 

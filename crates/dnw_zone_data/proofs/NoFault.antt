@@ -1,9 +1,11 @@
 -- A text that is data of a type has no fault.
-use Rattle.std.proofs.Common.{◌≡◌, ◌⊎◌, ℕ, Bool, true, false, List, [], ◌∷◌, length, sym, ◌∙◌, subst, inl, inr}
+use Rattle.std.proofs.Common.{◌≡◌, ◌⊎◌, ℕ, true, false, List, [], ◌∷◌, length, sym, ◌∙◌, subst, inl, inr}
 use Rattle.std.specs.Prelude.{Option}
 use Rattle.dnw_base.specs.Names.{NameValue}
 use Rattle.dnw_data.specs.declared.kind.Kind.{Kind}
 use Rattle.dnw_data.specs.Values.{FieldValue}
+use Rattle.dnw_zone_data.specs.declared.extent.Extent.{Extent}
+use Rattle.dnw_zone_data.specs.declared.extent.Extent.TheVariants.{One, Three, All}
 use Rattle.dnw_zone_data.specs.declared.number_form.NumberForm.{NumberForm}
 use Rattle.dnw_zone_data.specs.NumberForms.{first_form, other_forms}
 use Rattle.dnw_zone_data.specs.Words.{after_spaces, after_word}
@@ -11,14 +13,15 @@ use Rattle.dnw_zone_data.specs.declared.error.DataTextError.{DataTextError}
 use Rattle.dnw_zone_data.specs.declared.error.DataTextError.TheVariants.{Memory}
 use Rattle.dnw_zone_data.specs.DataTexts.{ArePlain, FailsGeneric, text_kinds}
 use Rattle.dnw_zone_data.specs.Generic.{AreHexWords, IsSized, FailsSized}
-use Rattle.dnw_zone_data.specs.Parsing.{ReadsBy, AreFieldTexts, FailsFields, takes_all}
+use Rattle.dnw_zone_data.specs.Parsing.{ReadsBy, AreFieldTexts, FailsFields, extent_of}
 use Rattle.dnw_zone_data.specs.DataTextLaws.{GenericIsParsed, TextsAreParsed}
 use Rattle.dnw_zone_data.proofs.GenericText.{one_sized}
 
-one_rest : (all : Bool) (origin : Option NameValue) (way : NumberForm) (kind : Kind) (left r s : List ℕ) (v w : FieldValue) → ReadsBy all origin way kind left v r → ReadsBy all origin way kind left w s
-    → r ≡ s
-one_rest true origin way kind left r s v w h k = h.1 ∙ sym k.1
-one_rest false origin way kind left r s v w h k = h.1 ∙ sym k.1
+one_rest : (extent : Extent) (origin : Option NameValue) (way : NumberForm) (kind : Kind) (left r s : List ℕ) (v w : FieldValue) → ReadsBy extent origin way kind left v r
+    → ReadsBy extent origin way kind left w s → r ≡ s
+one_rest One origin way kind left r s v w h k = h.1 ∙ sym k.1
+one_rest Three origin way kind left r s v w h k = h.1 ∙ sym k.1
+one_rest All origin way kind left r s v w h k = h.1 ∙ sym k.1
 
 no_fault : (origin : Option NameValue) (count len : ℕ) (ways : List NumberForm) (kinds : List Kind) (left : List ℕ) (values : List FieldValue) (e : DataTextError)
     → AreFieldTexts origin ways kinds left values → FailsFields origin count len ways kinds left e → ⊥
@@ -27,7 +30,7 @@ no_fault origin count len ways [] left (v ∷ values) e are fails = are
 no_fault origin count len ways (kind ∷ kinds) left [] e are fails = are
 no_fault origin count len ways (kind ∷ kinds) left (v ∷ values) e (rest, reads, are) (inl none) = none.0 v rest reads
 no_fault origin count len ways (kind ∷ kinds) left (v ∷ values) e (rest, reads, are) (inr (w, other, also, fails)) =
-    let same = one_rest (takes_all kind) origin (first_form ways) kind (after_spaces left) other rest w v also reads in
+    let same = one_rest (extent_of kind) origin (first_form ways) kind (after_spaces left) other rest w v also reads in
     no_fault origin count len (other_forms ways) kinds rest values e are (subst (λ (xs : List ℕ). FailsFields origin count len (other_forms ways) kinds xs e) same fails)
 
 sized_fails : (len : ℕ) (left own : List ℕ) (e : DataTextError) → IsSized left own → FailsSized len left e → e ≡ Memory

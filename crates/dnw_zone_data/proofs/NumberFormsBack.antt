@@ -6,10 +6,10 @@ use Rattle.std.specs.List.{list_all}
 use Rattle.std.proofs.lemmas.Bool.{and_parts}
 use Rattle.std.proofs.lemmas.Fmt.{decimal_by_steps, decimal_nonempty}
 use Rattle.dnw_zone_lexer.specs.Times.{groups_after, time_seconds, total_seconds}
-use Rattle.dnw_zone_values.specs.Mnemonics.{IsNumberOrName, algorithm_named, begins_with_digit, certificate_type_named}
+use Rattle.dnw_zone_values.specs.Mnemonics.{IsNumberOrName, algorithm_named, begins_with_digit, certificate_type_named, scheme_named}
 use Rattle.dnw_zone_values.proofs.ComeBack.{numbers}
 use Rattle.dnw_zone_data.specs.declared.number_form.NumberForm.{NumberForm}
-use Rattle.dnw_zone_data.specs.declared.number_form.NumberForm.TheVariants.{Decimal, Period, Algorithm, CertificateType}
+use Rattle.dnw_zone_data.specs.declared.number_form.NumberForm.TheVariants.{Decimal, Period, Algorithm, CertificateType, Scheme}
 use Rattle.dnw_zone_data.specs.NumberForms.{is_whole, IsNumberIn, IsPeriod}
 
 digit : (d : ℕ) → d < 10 → is_ascii_digit (48 + d) ≡ true
@@ -65,3 +65,4 @@ in_any_form Decimal max n fits few = (numbers max (omega (arith, fits)) n few).0
 in_any_form Period max n fits few = (period n (omega (arith, fits, few)), few)
 in_any_form Algorithm max n fits few = named_or algorithm_named max n fits few
 in_any_form CertificateType max n fits few = named_or certificate_type_named max n fits few
+in_any_form Scheme max n fits few = named_or scheme_named max n fits few

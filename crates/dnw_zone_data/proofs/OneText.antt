@@ -1,24 +1,26 @@
 -- A text is one list of octets at most.
-use Rattle.std.proofs.Common.{◌≡◌, ℕ, List, [], ◌∷◌, Ok, refl, sym, ap, ◌∙◌, subst, arith, inl, inr}
+use Rattle.std.proofs.Common.{◌≡◌, ℕ, List, [], ◌∷◌, ◌+◌, ◌*◌, Ok, refl, sym, ap, ◌∙◌, subst, arith, inl, inr}
 use Rattle.std.specs.Prelude.{Option, pos, flat_map}
-use Rattle.std.specs.Net.Addr.{ipv4_octets, ipv6_segments}
+use Rattle.std.specs.Net.Addr.{ipv4_octets, ipv6_segments, octets_of}
 use Rattle.std.specs.declared.net.Ipv4Addr.{Ipv4Addr}
 use Rattle.std.specs.declared.net.Ipv6Addr.{Ipv6Addr}
 use Rattle.std.proofs.NetLemmas.Theorems.{IsIpv4Text_unique, IsIpv6Text_unique}
 use Rattle.std.proofs.lemmas.Bool.{cases_Bool}
 use Rattle.std.proofs.lemmas.Option.{same_Some}
-use Rattle.dnw_base.specs.Names.{NameValue, label_wire}
+use Rattle.dnw_base.specs.Names.{NameValue, label_wire, wire}
 use Rattle.dnw_base.specs.declared.record_type.RecordType.{RecordType}
 use Rattle.dnw_base.specs.DnsClasses.{class_code}
 use Rattle.dnw_base.specs.RecordTypes.{type_code as code_of}
 use Rattle.dnw_data.specs.declared.kind.Kind.{Kind}
 use Rattle.dnw_data.specs.declared.kind.Kind.TheVariants as kinds
 use Rattle.dnw_data.specs.declared.kind.ListKind.TheVariants as lists
+use Rattle.dnw_data.specs.declared.kind.Shape.{Shape}
+use Rattle.dnw_data.specs.declared.kind.Shape.TheVariants.{Gateway, Relay, HostIdentity}
 use Rattle.dnw_data.specs.declared.kind.Shown.{Shown}
 use Rattle.dnw_data.specs.declared.kind.Shown.TheVariants.{Text, Tag, Hex, Base32Hex, Base64, Other}
 use Rattle.dnw_data.specs.Table.{fields_of}
-use Rattle.dnw_data.specs.Values.{FieldValue, name, u8, u16, u32, ipv4, ipv6, type_code, time, counted, octets, texts, types, params, items}
-use Rattle.dnw_zone_values.specs.Mnemonics.{IsNumberOrName, algorithm_named, begins_with_digit, certificate_type_named}
+use Rattle.dnw_data.specs.Values.{FieldValue, name, u8, u16, u32, ipv4, ipv6, type_code, time, counted, octets, texts, types, params, names, items}
+use Rattle.dnw_zone_values.specs.Mnemonics.{IsNumberOrName, algorithm_named, begins_with_digit, certificate_type_named, scheme_named}
 use Rattle.dnw_zone_values.specs.Octets.{IsOctets, IsHexText, IsBase64Text, IsSaltText}
 use Rattle.dnw_zone_values.specs.Strings.{IsTextWithin}
 use Rattle.dnw_zone_values.specs.Times.{IsDateText, IsTimeText}
@@ -26,25 +28,29 @@ use Rattle.dnw_zone_values.proofs.ComeBack.{base64}
 use Rattle.dnw_zone_values.specs.Params.{ParamValue, in_key_order, params_wire}
 use Rattle.dnw_zone_data.proofs.ParamWalks.{one_params}
 use Rattle.dnw_data.specs.FieldWires.{field_wire}
+use Rattle.dnw_zone_data.specs.declared.extent.Extent.{Extent}
+use Rattle.dnw_zone_data.specs.declared.extent.Extent.TheVariants.{One, Three, All}
 use Rattle.dnw_zone_data.specs.declared.number_form.NumberForm.{NumberForm}
-use Rattle.dnw_zone_data.specs.declared.number_form.NumberForm.TheVariants.{Decimal, Period, Algorithm, CertificateType}
+use Rattle.dnw_zone_data.specs.declared.number_form.NumberForm.TheVariants.{Decimal, Period, Algorithm, CertificateType, Scheme}
 use Rattle.dnw_zone_data.specs.NumberForms.{first_form, number_forms, other_forms, IsNumberIn}
+use Rattle.dnw_zone_data.specs.Gateways.{IsEnd, IsGateway, IsIdentity, IsRelay, IsShape, identity_wire, of_shape, relay_flag}
+use Rattle.dnw_zone_data.specs.NameLists.{AreNameWords}
 use Rattle.dnw_zone_data.specs.TypeLists.{AreTypeWords}
-use Rattle.dnw_zone_data.specs.Words.{after_spaces, after_word, without_spaces, word}
+use Rattle.dnw_zone_data.specs.Words.{after_spaces, after_word, next_word, without_spaces, word}
 use Rattle.dnw_zone_data.specs.DataTexts.{IsPlainData, IsTextOf, text_kinds}
 use Rattle.dnw_zone_data.specs.Generic.{IsGeneric}
 use Rattle.dnw_zone_data.specs.DataTextLaws.{DataAreUnambiguous, PrintedDataAreSame}
-use Rattle.dnw_zone_data.specs.Parsing.{takes_all, AreAll, AreFieldTexts, AreStringWords, IsIdentifierField, IsNumber, IsWord, ReadsField, SpellsShown, eui48, eui64}
+use Rattle.dnw_zone_data.specs.Parsing.{extent_of, AreAll, AreThree, AreFieldTexts, AreStringWords, IsIdentifierField, IsNumber, IsWord, ReadsBy, ReadsField, SpellsShown, eui48, eui64}
 use Rattle.dnw_zone_data.proofs.DataBack.{back, data_fit}
 use Rattle.dnw_zone_data.proofs.GenericText.{one_generic}
 use Rattle.dnw_zone_data.proofs.OneBitmap.{back_fit, front_fit, one_bitmap}
 
 -- ---- words
 
-one_hex : (text a b : List ℕ) → IsHexText text a → IsHexText text b → a ≡ b
+pub one_hex : (text a b : List ℕ) → IsHexText text a → IsHexText text b → a ≡ b
 one_hex text a b x y = let e : Ok a ≡ Ok b = sym x ∙ y in cc
 
-one_base64 : (text a b : List ℕ) → IsBase64Text text a → IsBase64Text text b → a ≡ b
+pub one_base64 : (text a b : List ℕ) → IsBase64Text text a → IsBase64Text text b → a ≡ b
 one_base64 text a b x y = (base64 b y.0).1 a (subst (λ (t : List ℕ). IsBase64Text t a) y.1 x)
 
 one_within : (max : ℕ) (text a b : List ℕ) → IsTextWithin max text a → IsTextWithin max text b → a ≡ b
@@ -87,6 +93,7 @@ one_in_form Decimal max text m n x y = sym x.1 ∙ y.1
 one_in_form Period max text m n x y = same_Some m n (sym x.0.0 ∙ y.0.0)
 one_in_form Algorithm max text m n x y = one_or_name algorithm_named max text m n x y
 one_in_form CertificateType max text m n x y = one_or_name certificate_type_named max text m n x y
+one_in_form Scheme max text m n x y = one_or_name scheme_named max text m n x y
 
 one_number : (way : NumberForm) (max : ℕ) (field : ℕ → FieldValue) (text : List ℕ) (v w : FieldValue) → IsNumber way max field text v → IsNumber way max field text w → v ≡ w
 one_number way max field text v w x y = x.3 ∙ ap field (one_in_form way max text x.0 y.0 x.2 y.2) ∙ sym y.3
@@ -131,32 +138,99 @@ one_types left (s ∷ a) [] x y = absurd (x.0 y)
 one_types left (s ∷ a) (t ∷ b) x y =
     ap (λ (record_type : RecordType). record_type ∷ a) (same_Some s t (sym x.1.1 ∙ y.1.1)) ∙ ap (λ (rest : List RecordType). t ∷ rest) (one_types (after_word (after_spaces left)) a b x.2 y.2)
 
+one_names : (origin : Option NameValue) (left : List ℕ) (a b : List (List (List ℕ))) → AreNameWords origin left a → AreNameWords origin left b → a ≡ b
+one_names origin left [] [] x y = refl
+one_names origin left [] (t ∷ b) x y = absurd (y.0 x)
+one_names origin left (s ∷ a) [] x y = absurd (x.0 y)
+one_names origin left (s ∷ a) (t ∷ b) x y =
+    ap (λ (labels : List (List ℕ)). labels ∷ a) (same_Some s t (sym x.1 ∙ y.1)) ∙ ap (λ (rest : List (List (List ℕ))). t ∷ rest) (one_names origin (after_word (after_spaces left)) a b x.2 y.2)
+
 types_fit : (v : FieldValue) (own : List ℕ) → v ≡ types (items lists.Types own) → IsOctets (field_wire v) → IsOctets own
 types_fit v own e h = subst (λ (z : FieldValue). IsOctets (field_wire z)) e h
 
-one_list : (kind : Kind) (left : List ℕ) (v w : FieldValue) → IsOctets (field_wire v) → IsOctets (field_wire w) → AreAll kind left v → AreAll kind left w → v ≡ w
-one_list (kinds.Octets Hex) left v w hv hw x y = x.2 ∙ ap octets (one_hex (without_spaces left) x.0 y.0 x.1.1 y.1.1) ∙ sym y.2
-one_list (kinds.Octets Base64) left v w hv hw x y = x.2 ∙ ap octets (one_base64 (without_spaces left) x.0 y.0 x.1.1 y.1.1) ∙ sym y.2
-one_list (kinds.Octets shown) left v w hv hw x y = absurd x.1
-one_list (kinds.List lists.Texts) left v w hv hw x y =
+one_list : (origin : Option NameValue) (kind : Kind) (left : List ℕ) (v w : FieldValue) → IsOctets (field_wire v) → IsOctets (field_wire w) → AreAll origin kind left v → AreAll origin kind left w → v ≡ w
+one_list origin (kinds.Octets Hex) left v w hv hw x y = x.2 ∙ ap octets (one_hex (without_spaces left) x.0 y.0 x.1.1 y.1.1) ∙ sym y.2
+one_list origin (kinds.Octets Base64) left v w hv hw x y = x.2 ∙ ap octets (one_base64 (without_spaces left) x.0 y.0 x.1.1 y.1.1) ∙ sym y.2
+one_list origin (kinds.Octets shown) left v w hv hw x y = absurd x.1
+one_list origin (kinds.List lists.Texts) left v w hv hw x y =
     let same = one_strings left (x.0 ∷ x.1) (y.0 ∷ y.1) x.2 y.2 in
     x.3 ∙ ap (λ (own : List (List ℕ)). texts (items lists.Texts (flat_map label_wire own))) same ∙ sym y.3
-one_list (kinds.List lists.Types) left v w hv hw (a, own, words, are, e) (b, other, others, also, f) =
+one_list origin (kinds.List lists.Types) left v w hv hw (a, own, words, are, e) (b, other, others, also, f) =
     let same = one_types left a b words others in
     e ∙ ap (λ (xs : List ℕ). types (items lists.Types xs)) (one_bitmap b own other (types_fit v own e hv) (types_fit w other f hw) (rw same at are) also) ∙ sym f
-one_list (kinds.List lists.Params) left v w hv hw (a, own, words, is, keeps, e) (b, other, others, also, kept, f) =
+one_list origin (kinds.List lists.Params) left v w hv hw (a, own, words, is, keeps, e) (b, other, others, also, kept, f) =
     let same : own ≡ other = same_Some own other (sym is ∙ ap (in_key_order []) (one_params left a b words others) ∙ also) in
     e ∙ ap (λ (ps : List ParamValue). params (items lists.Params (params_wire ps))) same ∙ sym f
-one_list kind left v w hv hw x y = absurd x
+one_list origin (kinds.List lists.Names) left v w hv hw (a, words, e) (b, others, f) =
+    e ∙ ap (λ (listed : List (List (List ℕ))). names (items lists.Names (flat_map wire listed))) (one_names origin left a b words others) ∙ sym f
+one_list origin kind left v w hv hw x y = absurd x
+
+-- ---- three words
+
+one_end : (origin : Option NameValue) (type : ℕ) (text a b : List ℕ) → IsEnd origin type text a → IsEnd origin type text b → a ≡ b
+one_end origin type text a b (inl x) (inl y) = x.2 ∙ sym y.2
+one_end origin type text a b (inl x) (inr (inl y)) = absurd (omega (arith, x.0, y.0))
+one_end origin type text a b (inl x) (inr (inr (inl y))) = absurd (omega (arith, x.0, y.0))
+one_end origin type text a b (inl x) (inr (inr (inr y))) = absurd (omega (arith, x.0, y.0))
+one_end origin type text a b (inr (inl x)) (inl y) = absurd (omega (arith, x.0, y.0))
+one_end origin type text a b (inr (inl x)) (inr (inl y)) = x.4 ∙ ap ipv4_octets (IsIpv4Text_unique text x.1 y.1 x.3 y.3) ∙ sym y.4
+one_end origin type text a b (inr (inl x)) (inr (inr (inl y))) = absurd (omega (arith, x.0, y.0))
+one_end origin type text a b (inr (inl x)) (inr (inr (inr y))) = absurd (omega (arith, x.0, y.0))
+one_end origin type text a b (inr (inr (inl x))) (inl y) = absurd (omega (arith, x.0, y.0))
+one_end origin type text a b (inr (inr (inl x))) (inr (inl y)) = absurd (omega (arith, x.0, y.0))
+one_end origin type text a b (inr (inr (inl x))) (inr (inr (inl y))) =
+    x.4 ∙ ap (λ (address : Ipv6Addr). octets_of (ipv6_segments address)) (IsIpv6Text_unique text x.1 y.1 x.3 y.3) ∙ sym y.4
+one_end origin type text a b (inr (inr (inl x))) (inr (inr (inr y))) = absurd (omega (arith, x.0, y.0))
+one_end origin type text a b (inr (inr (inr x))) (inl y) = absurd (omega (arith, x.0, y.0))
+one_end origin type text a b (inr (inr (inr x))) (inr (inl y)) = absurd (omega (arith, x.0, y.0))
+one_end origin type text a b (inr (inr (inr x))) (inr (inr (inl y))) = absurd (omega (arith, x.0, y.0))
+one_end origin type text a b (inr (inr (inr x))) (inr (inr (inr y))) = x.3 ∙ ap wire (same_Some x.1 y.1 (sym x.2 ∙ y.2)) ∙ sym y.3
+
+one_gateway : (origin : Option NameValue) (first second third : List ℕ) (v w : FieldValue) → IsGateway origin first second third v → IsGateway origin first second third w → v ≡ w
+one_gateway origin first second third v w (t, g, own, ht, hg, end, e) (u, k, other, hu, hk, also, f) =
+    let type : t ≡ u = sym ht.1 ∙ hu.1 in
+    let algorithm : g ≡ k = sym hg.1 ∙ hk.1 in
+    let same : own ≡ other = one_end origin u third own other (subst (λ (n : ℕ). IsEnd origin n third own) type end) also in
+    let octets : t ∷ g ∷ own ≡ u ∷ k ∷ other = rw (type, algorithm, same) refl in
+    e ∙ ap (of_shape Gateway) octets ∙ sym f
+
+one_relay : (origin : Option NameValue) (first second third : List ℕ) (v w : FieldValue) → IsRelay origin first second third v → IsRelay origin first second third w → v ≡ w
+one_relay origin first second third v w (d, t, own, hd, ht, end, e) (c, u, other, hc, hu, also, f) =
+    let flag : d ≡ c = sym hd.1 ∙ hc.1 in
+    let type : t ≡ u = sym ht.1 ∙ hu.1 in
+    let same : own ≡ other = one_end origin u third own other (subst (λ (n : ℕ). IsEnd origin n third own) type end) also in
+    let octets : (relay_flag * d + t) ∷ own ≡ (relay_flag * c + u) ∷ other = rw (flag, type, same) refl in
+    e ∙ ap (of_shape Relay) octets ∙ sym f
+
+one_identity : (first second third : List ℕ) (v w : FieldValue) → IsIdentity first second third v → IsIdentity first second third w → v ≡ w
+one_identity first second third v w (g, tag, key, hg, _, hex, _, base, are, e) (k, tag2, key2, hk, _, hex2, _, base2, are2, f) =
+    let algorithm : g ≡ k = sym hg.1 ∙ hk.1 in
+    let tags : tag ≡ tag2 = one_hex second tag tag2 hex hex2 in
+    let keys : key ≡ key2 = one_base64 third key key2 base base2 in
+    let octets : identity_wire g tag key ≡ identity_wire k tag2 key2 = rw (algorithm, tags, keys) refl in
+    e ∙ ap (of_shape HostIdentity) octets ∙ sym f
+
+one_shape : (origin : Option NameValue) (shape : Shape) (first second third : List ℕ) (v w : FieldValue) → IsShape origin shape first second third v → IsShape origin shape first second third w → v ≡ w
+one_shape origin Gateway first second third v w x y = one_gateway origin first second third v w x y
+one_shape origin Relay first second third v w x y = one_relay origin first second third v w x y
+one_shape origin HostIdentity first second third v w x y = one_identity first second third v w x y
+one_shape origin shape first second third v w x y = absurd x
+
+one_three : (origin : Option NameValue) (kind : Kind) (first second third : List ℕ) (v w : FieldValue) → AreThree origin kind first second third v → AreThree origin kind first second third w → v ≡ w
+one_three origin (kinds.Shaped shape) first second third v w x y = one_shape origin shape first second third v w x y
+one_three origin kind first second third v w x y = absurd x
 
 -- ---- fields
 
+one_by : (extent : Extent) (origin : Option NameValue) (way : NumberForm) (kind : Kind) (left : List ℕ) (v w : FieldValue) (r s : List ℕ) → IsOctets (field_wire v)
+    → IsOctets (field_wire w) → ReadsBy extent origin way kind left v r → ReadsBy extent origin way kind left w s → (v ≡ w) × (r ≡ s)
+one_by One origin way kind left v w r s hv hw x y = (one_word_lem origin way kind (word left) v w x.0 y.0, x.1 ∙ sym y.1)
+one_by Three origin way kind left v w r s hv hw x y = (one_three origin kind (word left) (word (next_word left)) (word (next_word (next_word left))) v w x.0 y.0, x.1 ∙ sym y.1)
+one_by All origin way kind left v w r s hv hw x y = (one_list origin kind left v w hv hw x.0 y.0, x.1 ∙ sym y.1)
+
 one_field : (origin : Option NameValue) (way : NumberForm) (kind : Kind) (left : List ℕ) (v w : FieldValue) (r s : List ℕ) → IsOctets (field_wire v) → IsOctets (field_wire w)
     → ReadsField origin way kind left v r → ReadsField origin way kind left w s → (v ≡ w) × (r ≡ s)
-one_field origin way kind left v w r s hv hw x y = elim (cases_Bool (takes_all kind)) [
-  | inl all ↦ let a = rw all at x in let b = rw all at y in (one_list kind left v w hv hw a.0 b.0, a.1 ∙ sym b.1)
-  | inr one ↦ let a = rw one at x in let b = rw one at y in (one_word_lem origin way kind (word left) v w a.0 b.0, a.1 ∙ sym b.1)
-]
+one_field origin way kind left v w r s hv hw x y = one_by (extent_of kind) origin way kind left v w r s hv hw x y
 
 one_fields : (origin : Option NameValue) (ways : List NumberForm) (kinds : List Kind) (left : List ℕ) (vs ws : List FieldValue) → IsOctets (flat_map field_wire vs) → IsOctets (flat_map field_wire ws)
     → AreFieldTexts origin ways kinds left vs → AreFieldTexts origin ways kinds left ws → vs ≡ ws

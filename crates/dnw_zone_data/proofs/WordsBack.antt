@@ -32,7 +32,7 @@ some_of : (w : List ℕ) → (w ≡ [] → ⊥) → 0 < length w
 some_of [] h = absurd (h refl)
 some_of (c ∷ w) h = omega arith
 
-ipv6_some : (a : Ipv6Addr) → IsColonHex (ipv6_text (ipv6_segments a)) (ipv6_segments a) → 0 < length (ipv6_text (ipv6_segments a))
+pub ipv6_some : (a : Ipv6Addr) → IsColonHex (ipv6_text (ipv6_segments a)) (ipv6_segments a) → 0 < length (ipv6_text (ipv6_segments a))
 ipv6_some a is =
     some_of (ipv6_text (ipv6_segments a))
     (λ none. no_colon_hex (ipv6_segments a) (subst (λ (w : List ℕ). IsColonHex w (ipv6_segments a)) none is))

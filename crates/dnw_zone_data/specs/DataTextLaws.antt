@@ -13,10 +13,11 @@ use Rattle.dnw_data.specs.declared.kind.NameForm.{NameForm}
 use Rattle.dnw_data.specs.declared.kind.Kind.TheVariants.{U8, U16, U32, U48, U64, Ipv4, Ipv6, TypeCode, Time, Counted, Octets}
 use Rattle.dnw_data.specs.declared.kind.Kind.TheVariants as kinds
 use Rattle.dnw_data.specs.declared.kind.ListKind.TheVariants as lists
+use Rattle.dnw_data.specs.declared.kind.Shape.{Shape}
 use Rattle.dnw_data.specs.declared.kind.Shown.TheVariants.{Text, Tag, Hex, Base32Hex, Base64}
 use Rattle.dnw_data.specs.Lists.{list_fault}
 use Rattle.dnw_data.specs.Table.{fields_of}
-use Rattle.dnw_data.specs.Values.{FieldValue, name, u8, u16, u32, u48, u64, ipv4, ipv6, type_code, time, counted, octets, texts, types, params, items}
+use Rattle.dnw_data.specs.Values.{FieldValue, name, u8, u16, u32, u48, u64, ipv4, ipv6, type_code, time, counted, octets, texts, types, params, names, items}
 use Rattle.dnw_name_read.specs.ReadingLaws.{AreBytes}
 use Rattle.dnw_record.specs.Records.{RecordValue}
 use Rattle.dnw_zone_values.specs.Base32.{IsHash}
@@ -28,12 +29,14 @@ use Rattle.dnw_zone_data.specs.declared.error.DataTextError.{DataTextError}
 use Rattle.dnw_zone_data.specs.declared.error.DataTextError.TheVariants.{Memory}
 use Rattle.dnw_zone_data.specs.Generic.{generic_mark, generic_text, IsGeneric}
 use Rattle.dnw_base.specs.Limits.{max_data}
+use Rattle.dnw_zone_data.specs.declared.extent.Extent.TheVariants.{All}
 use Rattle.dnw_zone_data.specs.declared.number_form.NumberForm.{NumberForm}
 use Rattle.dnw_zone_data.specs.NumberForms.{number_forms}
 use Rattle.dnw_zone_data.specs.Words.{is_end, word, after_spaces}
+use Rattle.dnw_zone_data.specs.Gateways.{of_shape}
 use Rattle.dnw_zone_data.specs.Printing.{Prints}
 use Rattle.dnw_zone_data.specs.DataTexts.{ArePlain, FailsText, IsDataText, IsPlainData, IsTextOf}
-use Rattle.dnw_zone_data.specs.Parsing.{takes_all, ReadsField}
+use Rattle.dnw_zone_data.specs.Parsing.{extent_of, ReadsField}
 
 -- octets of data: their number is written in two octets (RFC 1035, section 3.2.1)
 abbrev pub IsDataOctets : List ℕ → Type 0
@@ -45,7 +48,7 @@ GenericComesBack = ComesBack IsDataOctets generic_text IsGeneric
 
 -- what is after a field: white space or nothing, and nothing after a field that takes all words
 abbrev pub FollowsField : Kind → List ℕ → Type 0
-FollowsField kind rest = (takes_all kind ≡ true → rest ≡ []) × (is_end rest ≡ true)
+FollowsField kind rest = (extent_of kind ≡ All → rest ≡ []) × (is_end rest ≡ true)
 
 -- A text is read as the field, and what follows is left. It begins with white space or is empty, and its first word is not the
 -- one that the form of any data begins with; so it can be the first field of data, or follow another.
@@ -109,6 +112,14 @@ ListsComeBack =
 -- Strings up to the end round-trip, one or more.
 abbrev pub StringsComeBack : Type 0
 StringsComeBack = (own : List ℕ) → IsOctets own → 1 ≤ length own → FieldComesBack (kinds.List lists.Texts) (texts (items lists.Texts own))
+
+-- Gateways, relays and host identities round-trip, if they have a text.
+abbrev pub ShapesComeBack : Type 0
+ShapesComeBack = (shape : Shape) (own : List ℕ) → IsOctets own → FieldComesBack (kinds.Shaped shape) (of_shape shape own)
+
+-- Names up to the end round-trip, none or more.
+abbrev pub NameListsComeBack : Type 0
+NameListsComeBack = (own : List ℕ) → IsOctets own → FieldComesBack (kinds.List lists.Names) (names (items lists.Names own))
 
 -- What is printed of data in their type's own form is parsed as their octets, with names that are not compressed, if these are not
 -- more than data may have. Names are printed whole, so the origin does not matter. What is printed in the form that any data have

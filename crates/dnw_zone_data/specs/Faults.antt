@@ -3,6 +3,7 @@ use Rattle.std.specs.Prelude.{ℕ}
 use Rattle.dnw_data.specs.declared.kind.Kind.{Kind}
 use Rattle.dnw_data.specs.declared.kind.Kind.TheVariants as kinds
 use Rattle.dnw_data.specs.declared.kind.ListKind.TheVariants as lists
+use Rattle.dnw_data.specs.declared.kind.Shape.TheVariants.{Gateway, Relay, HostIdentity}
 use Rattle.dnw_data.specs.declared.kind.Shown.{Shown}
 use Rattle.dnw_data.specs.declared.kind.Shown.TheVariants as shown
 use Rattle.dnw_zone_data.specs.declared.error.DataTextError.{DataTextError}
@@ -10,7 +11,7 @@ use Rattle.dnw_zone_data.specs.declared.error.DataTextError.TheVariants.{Wanted 
 use Rattle.dnw_zone_data.specs.declared.error.Wanted.{Wanted}
 use Rattle.dnw_zone_data.specs.declared.error.Wanted.TheVariants as wanted
 use Rattle.dnw_zone_data.specs.declared.number_form.NumberForm.{NumberForm}
-use Rattle.dnw_zone_data.specs.declared.number_form.NumberForm.TheVariants.{Decimal, Period, Algorithm, CertificateType}
+use Rattle.dnw_zone_data.specs.declared.number_form.NumberForm.TheVariants.{Decimal, Period, Algorithm, CertificateType, Scheme}
 
 -- what is wanted of a number in a form, if this is wanted of one in decimal
 abbrev pub number_wanted : NumberForm → Wanted → Wanted
@@ -18,6 +19,7 @@ number_wanted Decimal decimal = decimal
 number_wanted Period decimal = wanted.Period
 number_wanted Algorithm decimal = wanted.Algorithm
 number_wanted CertificateType decimal = wanted.CertificateType
+number_wanted Scheme decimal = wanted.Scheme
 
 -- what is wanted of octets up to the end
 abbrev pub octets_wanted : Shown → Wanted
@@ -46,6 +48,10 @@ wanted_of way (kinds.Octets form) = octets_wanted form
 wanted_of way (kinds.List lists.Texts) = wanted.Strings
 wanted_of way (kinds.List lists.Types) = wanted.Types
 wanted_of way (kinds.List lists.Params) = wanted.Params
+wanted_of way (kinds.List lists.Names) = wanted.Names
+wanted_of way (kinds.Shaped Gateway) = wanted.Gateway
+wanted_of way (kinds.Shaped Relay) = wanted.Relay
+wanted_of way (kinds.Shaped HostIdentity) = wanted.HostIdentity
 wanted_of way kind = wanted.Generic
 
 -- this was wanted at the offset, for the field with this number

@@ -4,5 +4,6 @@ pub mod ParamSteps
 pub mod Steps
 pub mod Reads
 pub mod StringWords
+pub mod NameWords
 pub mod Wires
 pub mod WordParts

@@ -6,6 +6,8 @@ pub mod TypeLists
 pub mod ParamLists
 pub mod Faults
 pub mod Generic
+pub mod Gateways
+pub mod NameLists
 pub mod Printing
 pub mod Parsing
 pub mod DataTexts

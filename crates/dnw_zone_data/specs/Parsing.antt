@@ -1,5 +1,5 @@
 -- Which fields texts give (RFC 1035, section 5.1), and the octets that fields are.
-use Rattle.std.specs.Prelude.{Bool, true, false, ◌≡◌, ◌≢◌, ℕ, ◌-◌, ◌⊎◌, Option, Some, List, [], ◌∷◌, length, flat_map}
+use Rattle.std.specs.Prelude.{◌≡◌, ◌≢◌, ℕ, ◌-◌, ◌⊎◌, Option, Some, List, [], ◌∷◌, length, flat_map}
 use Rattle.std.specs.Int.{w64, from_be_bytes}
 use Rattle.std.specs.Net.Addr.{ipv4_octets, ipv6_segments}
 use Rattle.std.specs.Net.Grammar.{IsIpv4Text, IsIpv6Text}
@@ -11,6 +11,7 @@ use Rattle.dnw_data.specs.declared.kind.Kind.{Kind}
 use Rattle.dnw_data.specs.declared.kind.Kind.TheVariants as kinds
 use Rattle.dnw_data.specs.declared.kind.ListKind.{ListKind}
 use Rattle.dnw_data.specs.declared.kind.ListKind.TheVariants as lists
+use Rattle.dnw_data.specs.declared.kind.Shape.TheVariants.{Location, Gateway, Relay, HostIdentity}
 use Rattle.dnw_data.specs.declared.kind.Shown.{Shown}
 use Rattle.dnw_data.specs.declared.kind.Shown.TheVariants.{Text, Tag, Hex, Base32Hex, Base64, Other}
 use Rattle.dnw_data.specs.Values.{FieldValue, name, u8, u16, u32, u48, u64, ipv4, ipv6, time, counted, octets, texts, items}
@@ -23,11 +24,15 @@ use Rattle.dnw_zone_values.specs.Pairs.{IsPairsText}
 use Rattle.dnw_zone_values.specs.Times.{IsTimeText}
 use Rattle.dnw_zone_data.specs.declared.error.DataTextError.{DataTextError}
 use Rattle.dnw_zone_data.specs.declared.error.Wanted.TheVariants.{End}
+use Rattle.dnw_zone_data.specs.declared.extent.Extent.{Extent}
+use Rattle.dnw_zone_data.specs.declared.extent.Extent.TheVariants.{One, Three, All}
 use Rattle.dnw_zone_data.specs.declared.number_form.NumberForm.{NumberForm}
 use Rattle.dnw_zone_data.specs.NumberForms.{first_form, other_forms, IsNumberIn}
-use Rattle.dnw_zone_data.specs.Words.{after_spaces, word, after_word, without_spaces}
+use Rattle.dnw_zone_data.specs.Words.{after_spaces, word, after_word, next_word, without_spaces}
 use Rattle.dnw_zone_data.specs.Faults.{fault, wanted_of}
 use Rattle.dnw_zone_data.specs.NameReading.{named_at}
+use Rattle.dnw_zone_data.specs.Gateways.{IsShape}
+use Rattle.dnw_zone_data.specs.NameLists.{AreNames}
 use Rattle.dnw_zone_data.specs.TypeLists.{AreTypes, IsTypeField}
 use Rattle.dnw_zone_data.specs.ParamLists.{AreParams}
 
@@ -102,14 +107,6 @@ AreTexts left value =
     (first : List ℕ) × (others : List (List ℕ)) × AreStringWords left (first ∷ others)
     × (value ≡ texts (items lists.Texts (flat_map label_wire (first ∷ others))))
 
--- kinds that take all words that are left
-abbrev pub takes_all : Kind → Bool
-takes_all (kinds.Octets Hex) = true
-takes_all (kinds.Octets Base64) = true
-takes_all (kinds.Octets Other) = true
-takes_all (kinds.List list) = true
-takes_all kind = false
-
 -- a text writes octets up to the end
 abbrev pub SpellsOctets : Shown → List ℕ → List ℕ → Type 0
 SpellsOctets Hex text own = IsUtf8 text × IsHexText text own
@@ -121,26 +118,54 @@ abbrev pub AllSpell : Shown → List ℕ → List ℕ → Type 0
 AllSpell shown left own = SpellsOctets shown (without_spaces left) own
 
 -- all words are the items of a list
-abbrev pub AreList : ListKind → List ℕ → FieldValue → Type 0
-AreList lists.Texts left value = AreTexts left value
-AreList lists.Types left value = AreTypes left value
-AreList lists.Params left value = AreParams left value
-AreList kind left value = ⊥
+abbrev pub AreList : Option NameValue → ListKind → List ℕ → FieldValue → Type 0
+AreList origin lists.Texts left value = AreTexts left value
+AreList origin lists.Types left value = AreTypes left value
+AreList origin lists.Params left value = AreParams left value
+AreList origin lists.Names left value = AreNames origin left value
+AreList origin kind left value = ⊥
 
 -- all words are a field of this kind
-abbrev pub AreAll : Kind → List ℕ → FieldValue → Type 0
-AreAll (kinds.Octets shown) left value = (own : List ℕ) × AllSpell shown left own × (value ≡ octets own)
-AreAll (kinds.List list) left value = AreList list left value
-AreAll kind left value = ⊥
+abbrev pub AreAll : Option NameValue → Kind → List ℕ → FieldValue → Type 0
+AreAll origin (kinds.Octets shown) left value = (own : List ℕ) × AllSpell shown left own × (value ≡ octets own)
+AreAll origin (kinds.List list) left value = AreList origin list left value
+AreAll origin kind left value = ⊥
 
--- All words are the field, or the first is.
-abbrev pub ReadsBy : Bool → Option NameValue → NumberForm → Kind → List ℕ → FieldValue → List ℕ → Type 0
-ReadsBy true origin way kind left value rest = AreAll kind left value × (rest ≡ [])
-ReadsBy false origin way kind left value rest = IsWord origin way kind (word left) value × (rest ≡ after_word left)
+-- three words are a field of this kind
+abbrev pub AreThree : Option NameValue → Kind → List ℕ → List ℕ → List ℕ → FieldValue → Type 0
+AreThree origin (kinds.Shaped shape) first second third value = IsShape origin shape first second third value
+AreThree origin kind first second third value = ⊥
 
--- The first word of a text, or all, are a field of this kind with its number in a form, and this is after it.
+-- the first three words of a text are a field of this kind, and this is after them
+abbrev pub ReadsThree : Option NameValue → Kind → List ℕ → FieldValue → List ℕ → Type 0
+ReadsThree origin kind left value rest =
+    let second = next_word left in
+    let third = next_word second in
+    AreThree origin kind (word left) (word second) (word third) value × (rest ≡ after_word third)
+
+-- ---- fields
+
+-- how many words are the text of a field of a kind
+abbrev pub extent_of : Kind → Extent
+extent_of (kinds.Octets Hex) = All
+extent_of (kinds.Octets Base64) = All
+extent_of (kinds.Octets Other) = All
+extent_of (kinds.List list) = All
+extent_of (kinds.Shaped Location) = All
+extent_of (kinds.Shaped Gateway) = Three
+extent_of (kinds.Shaped Relay) = Three
+extent_of (kinds.Shaped HostIdentity) = Three
+extent_of kind = One
+
+-- so many words are the field, and this is after them
+abbrev pub ReadsBy : Extent → Option NameValue → NumberForm → Kind → List ℕ → FieldValue → List ℕ → Type 0
+ReadsBy One origin way kind left value rest = IsWord origin way kind (word left) value × (rest ≡ after_word left)
+ReadsBy Three origin way kind left value rest = ReadsThree origin kind left value rest
+ReadsBy All origin way kind left value rest = AreAll origin kind left value × (rest ≡ [])
+
+-- The first words of a text are a field of this kind with its number in a form, and this is after it.
 abbrev pub ReadsField : Option NameValue → NumberForm → Kind → List ℕ → FieldValue → List ℕ → Type 0
-ReadsField origin way kind left value rest = ReadsBy (takes_all kind) origin way kind left value rest
+ReadsField origin way kind left value rest = ReadsBy (extent_of kind) origin way kind left value rest
 
 -- The text is these fields of these kinds, with numbers in these forms.
 abbrev pub AreFieldTexts : Option NameValue → List NumberForm → List Kind → List ℕ → List FieldValue → Type 0

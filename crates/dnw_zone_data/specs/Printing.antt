@@ -22,6 +22,8 @@ use Rattle.dnw_zone_values.specs.Times.{IsDateText}
 use Rattle.dnw_name_text.specs.NameTexts.{full_name_text}
 use Rattle.dnw_zone_data.specs.TypeLists.{PrintsTypes}
 use Rattle.dnw_zone_data.specs.ParamLists.{PrintsParams}
+use Rattle.dnw_zone_data.specs.Gateways.{PrintsShaped}
+use Rattle.dnw_zone_data.specs.NameLists.{PrintsNames}
 use Rattle.dnw_zone_data.specs.Generic.{hex_part}
 
 -- nothing for no octets
@@ -90,9 +92,9 @@ Prints kind (texts items) text = PrintsStrings items.octets text
 Prints kind (types items) text = PrintsTypes items.octets text
 Prints kind (params items) text = PrintsParams items.octets text
 Prints kind (prefixes items) text = ⊥
-Prints kind (names items) text = ⊥
+Prints kind (names items) text = PrintsNames items.octets text
 Prints kind (long_counted own) text = ⊥
-Prints kind (shaped own) text = ⊥
+Prints kind (shaped own) text = PrintsShaped own.shape own.octets text
 
 -- The text is that of the fields of these kinds, which are read up to the end.
 abbrev pub PrintsFields : List Kind → Decoder → List ℕ → Type 0

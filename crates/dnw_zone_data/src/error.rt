@@ -3,7 +3,7 @@ ghost use Rattle.std.specs.Prelude.{◌≡◌};
 ghost use Rattle.dnw_zone_data.specs.Faults.{number_wanted, octets_wanted, wanted_of};
 
 use crate::number_form::NumberForm;
-use dnw_data::kind::{Kind, ListKind, Shown};
+use dnw_data::kind::{Kind, ListKind, Shape, Shown};
 use std::alloc::AllocError;
 use thiserror::Error;
 
@@ -31,6 +31,9 @@ pub enum Wanted {
     /// A type of certificates by its number or its mnemonic: `PKIX`.
     #[error("a type of certificates by its number or mnemonic")]
     CertificateType,
+    /// A scheme of DSYNC by its number or its mnemonic: `NOTIFY`.
+    #[error("a scheme by its number or mnemonic")]
+    Scheme,
     /// A time: 14 digits as YYYYMMDDHHmmSS, or a number of seconds.
     #[error("YYYYMMDDHHmmSS or a number of seconds")]
     Time,
@@ -79,6 +82,18 @@ pub enum Wanted {
     /// Service parameters up to the end, none of them twice.
     #[error("service parameters, each key once")]
     Params,
+    /// Names up to the end.
+    #[error("names")]
+    Names,
+    /// The type of a gateway, an algorithm, and the gateway.
+    #[error("the type of a gateway (0 to 3), an algorithm, and `.`, an address or a name")]
+    Gateway,
+    /// The discovery flag of a relay, its type, and the relay.
+    #[error("0 or 1, the type of a relay (0 to 3), and `.`, an address or a name")]
+    Relay,
+    /// The algorithm of a host identity, its tag and its key.
+    #[error("an algorithm, a tag in hexadecimal, and a key in base 64")]
+    HostIdentity,
     /// The form that any data have, which begins with `\#`: the type has no other.
     #[error("the form of any data, which begins with \\#")]
     Generic,
@@ -148,6 +163,10 @@ pub(crate) fn wanted_of(form: NumberForm, kind: Kind) -> Wanted
         Kind::List(ListKind::Texts) => Wanted::Strings,
         Kind::List(ListKind::Types) => Wanted::Types,
         Kind::List(ListKind::Params) => Wanted::Params,
+        Kind::List(ListKind::Names) => Wanted::Names,
+        Kind::Shaped(Shape::Gateway) => Wanted::Gateway,
+        Kind::Shaped(Shape::Relay) => Wanted::Relay,
+        Kind::Shaped(Shape::HostIdentity) => Wanted::HostIdentity,
         _ => Wanted::Generic,
     }
 }
@@ -161,6 +180,7 @@ fn number_wanted(form: NumberForm, decimal: Wanted) -> Wanted
         NumberForm::Period => Wanted::Period,
         NumberForm::Algorithm => Wanted::Algorithm,
         NumberForm::CertificateType => Wanted::CertificateType,
+        NumberForm::Scheme => Wanted::Scheme,
     }
 }
 

@@ -8,9 +8,12 @@
 
 pub mod data_text;
 pub mod error;
+pub mod extent;
+mod gateways;
 pub mod generic;
 pub mod laws;
 pub mod name;
+mod name_lists;
 pub mod number_form;
 pub mod params;
 mod parsing;

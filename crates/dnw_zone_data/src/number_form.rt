@@ -8,7 +8,9 @@ ghost use Rattle.dnw_zone_data.specs.NumberForms.{ends_with_digit, first_form, i
 
 use dnw_base::record_type::RecordType;
 use dnw_zone_lexer::ttl::ttl_seconds;
-use dnw_zone_values::mnemonic::{algorithm_named, begins_with_digit, certificate_type_named};
+use dnw_zone_values::mnemonic::{
+    algorithm_named, begins_with_digit, certificate_type_named, scheme_named,
+};
 use dnw_zone_values::number::number_up_to;
 
 /// How a number is written. Each is printed in decimal.
@@ -22,6 +24,8 @@ pub enum NumberForm {
     Algorithm,
     /// As the number or the mnemonic of a type of certificates: `PKIX`.
     CertificateType,
+    /// As the number or the mnemonic of a scheme of DSYNC: `NOTIFY`.
+    Scheme,
 }
 
 /// The forms of the first fields of a SOA record.
@@ -42,6 +46,9 @@ const CERT: &[NumberForm] = &[
     NumberForm::Algorithm,
 ];
 
+/// The forms of the first fields of a DSYNC record.
+const DSYNC: &[NumberForm] = &[NumberForm::Decimal, NumberForm::Scheme];
+
 /// The forms of the first fields of a DS record and of those like it.
 const SECOND: &[NumberForm] = &[NumberForm::Decimal, NumberForm::Algorithm];
 
@@ -60,6 +67,7 @@ pub(crate) fn number_forms(record_type: RecordType) -> &'static [NumberForm]
     match u16::from(record_type) {
         6 => SOA,
         37 => CERT,
+        66 => DSYNC,
         24 | 43 | 46 | 59 | 32768 | 32769 => SECOND,
         25 | 48 | 57 | 60 => THIRD,
         _ => &[],
@@ -110,6 +118,7 @@ fn number_in(form: NumberForm, text: &str, max: u32) -> Option<u32>
         NumberForm::Period => period_in(text, max),
         NumberForm::Algorithm => algorithm_in(text, max),
         NumberForm::CertificateType => certificate_type_in(text, max),
+        NumberForm::Scheme => scheme_in(text, max),
     }
 }
 
@@ -152,6 +161,18 @@ fn certificate_type_in(text: &str, max: u32) -> Option<u32>
         return decimal_in(text, max);
     }
     let number = u32::from(certificate_type_named(text)?);
+    if number <= max { Some(number) } else { None }
+}
+
+/// Returns the number up to `max` of a scheme of DSYNC.
+fn scheme_in(text: &str, max: u32) -> Option<u32>
+    ensures is { MatchOption result ((n : ℕ) → ¬ (IsNumberIn NumberForm.Scheme max text.now n)) (IsNumberIn NumberForm.Scheme max text.now) }
+    ensures few { IfSome result (λ n. n ≤ max) }
+{
+    if begins_with_digit(text) {
+        return decimal_in(text, max);
+    }
+    let number = u32::from(scheme_named(text)?);
     if number <= max { Some(number) } else { None }
 }
 

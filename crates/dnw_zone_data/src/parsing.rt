@@ -4,13 +4,16 @@ ghost use Rattle.std.specs.Option.{option_copied, option_map};
 ghost use Rattle.dnw_data.specs.Values.{FieldValue, counted, octets};
 ghost use Rattle.dnw_zone_values.specs.Strings.{IsLongText};
 ghost use Rattle.dnw_zone_data.specs.declared.error.DataTextError.TheVariants.{Memory};
-ghost use Rattle.dnw_zone_data.specs.Parsing.{IsNameField, IsNumberOf, AreOctetsOf, IsOctetsOf, IsIdentifierField, eui48, eui64, SpellsShown, IsWord, AreTexts, AreList, takes_all, AllSpell, AreAll, ReadsField, AreFieldTexts, FailsFields};
+ghost use Rattle.dnw_zone_data.specs.Parsing.{IsNameField, IsNumberOf, AreOctetsOf, IsOctetsOf, IsIdentifierField, eui48, eui64, SpellsShown, IsWord, AreTexts, AreList, AllSpell, AreAll, AreThree, ReadsBy, ReadsThree, ReadsField, AreFieldTexts, FailsFields};
 ghost use Rattle.dnw_data.specs.FieldWires.{field_wire};
 ghost use Rattle.dnw_zone_data.specs.Inside.Reads.{AppendsRest, IsEndedBy};
 ghost use Rattle.dnw_zone_data.specs.Appending.{AppendsOne};
 
 use crate::error::{DataTextError, Wanted, wanted_of};
+use crate::extent::{Extent, extent_of};
+use crate::gateways::parse_shape;
 use crate::name::append_name;
+use crate::name_lists::parse_names;
 use crate::number_form::{NumberForm, next_form, u8_in, u16_in, u32_in};
 use crate::params::parse_params;
 use crate::spelling::{pairs_of, push_octets, push_spelled, push_string, push_text};
@@ -86,14 +89,72 @@ fn parse_field<'t>(
     ensures reads { IfOk result (λ rest. AppendsRest (ReadsField (option_copied origin.entry) form kind left.now) out.old.items out.new.items (option_map (λ r. r.now) rest)) }
     ensures within { IfOk result (λ rest. IfSome rest (λ r. length r.now ≤ length left.now)) }
 {
-    if takes_all(kind) {
-        return parse_all(alloc, kind, left, out);
+    parse_by(alloc, extent_of(kind), form, kind, left, origin, out)
+}
+
+/// Appends the octets of the field that so many words are, whose number is in a form. Returns what is after them, or `None` if they are none of this kind.
+fn parse_by<'t>(
+    alloc: Global,
+    extent: Extent,
+    form: NumberForm,
+    kind: Kind,
+    left: &'t [u8],
+    origin: Option<&Name>,
+    out: &mut Vec<u8>,
+) -> Result<Option<&'t [u8]>, AllocError>
+    ensures reads { IfOk result (λ rest. AppendsRest (ReadsBy extent (option_copied origin.entry) form kind left.now) out.old.items out.new.items (option_map (λ r. r.now) rest)) }
+    ensures within { IfOk result (λ rest. IfSome rest (λ r. length r.now ≤ length left.now)) }
+{
+    match extent {
+        Extent::All => parse_all(alloc, kind, left, origin, out),
+        Extent::Three => parse_three(alloc, kind, left, origin, out),
+        Extent::One => {
+            let (word, rest) = split_word(left);
+            if parse_word(alloc, form, kind, word, origin, out)? {
+                Ok(Some(rest))
+            } else {
+                Ok(None)
+            }
+        }
     }
-    let (word, rest) = split_word(left);
-    if parse_word(alloc, form, kind, word, origin, out)? {
+}
+
+/// Appends the octets of the field that three words are. Returns what is after them, or `None` if they are none of this kind.
+fn parse_three<'t>(
+    alloc: Global,
+    kind: Kind,
+    left: &'t [u8],
+    origin: Option<&Name>,
+    out: &mut Vec<u8>,
+) -> Result<Option<&'t [u8]>, AllocError>
+    ensures reads { IfOk result (λ rest. AppendsRest (ReadsThree (option_copied origin.entry) kind left.now) out.old.items out.new.items (option_map (λ r. r.now) rest)) }
+    ensures within { IfOk result (λ rest. IfSome rest (λ r. length r.now ≤ length left.now)) }
+{
+    let (first, after_first) = split_word(left);
+    let (second, after_second) = split_word(after_spaces(after_first));
+    let (third, rest) = split_word(after_spaces(after_second));
+    if parse_words(alloc, kind, first, second, third, origin, out)? {
         Ok(Some(rest))
     } else {
         Ok(None)
+    }
+}
+
+/// Appends the octets of the field that these words are. Returns `false` if they are none of this kind.
+fn parse_words(
+    alloc: Global,
+    kind: Kind,
+    first: &[u8],
+    second: &[u8],
+    third: &[u8],
+    origin: Option<&Name>,
+    out: &mut Vec<u8>,
+) -> Result<bool, AllocError>
+    ensures { IfOk result (AppendsOne (AreThree (option_copied origin.entry) kind first.now second.now third.now) out.old.items out.new.items) }
+{
+    match kind {
+        Kind::Shaped(shape) => parse_shape(alloc, shape, first, second, third, origin, out),
+        _ => Ok(false),
     }
 }
 
@@ -102,14 +163,15 @@ fn parse_all<'t>(
     alloc: Global,
     kind: Kind,
     left: &'t [u8],
+    origin: Option<&Name>,
     out: &mut Vec<u8>,
 ) -> Result<Option<&'t [u8]>, AllocError>
-    ensures reads { IfOk result (λ rest. AppendsRest (λ value r. AreAll kind left.now value × (r ≡ [])) out.old.items out.new.items (option_map (λ r. r.now) rest)) }
+    ensures reads { IfOk result (λ rest. AppendsRest (λ value r. AreAll (option_copied origin.entry) kind left.now value × (r ≡ [])) out.old.items out.new.items (option_map (λ r. r.now) rest)) }
     ensures within { IfOk result (λ rest. IfSome rest (λ r. length r.now ≤ length left.now)) }
 {
     match kind {
         Kind::Octets(shown) => Ok(ended(parse_joined(alloc, shown, left, out)?)),
-        Kind::List(list) => Ok(ended(parse_list(alloc, list, left, out)?)),
+        Kind::List(list) => Ok(ended(parse_list(alloc, list, left, origin, out)?)),
         _ => Ok(None),
     }
 }
@@ -142,15 +204,17 @@ fn parse_list(
     alloc: Global,
     list: ListKind,
     left: &[u8],
+    origin: Option<&Name>,
     out: &mut Vec<u8>,
 ) -> Result<bool, AllocError>
-    ensures { IfOk result (AppendsOne (AreList list left.now) out.old.items out.new.items) }
+    ensures { IfOk result (AppendsOne (AreList (option_copied origin.entry) list left.now) out.old.items out.new.items) }
 {
     match list {
         ListKind::Texts => parse_texts(alloc, left, out),
         ListKind::Types => parse_types(alloc, left, out),
         ListKind::Params => parse_params(alloc, left, out),
-        ListKind::Prefixes | ListKind::Names => Ok(false),
+        ListKind::Names => parse_names(alloc, left, origin, out),
+        ListKind::Prefixes => Ok(false),
     }
 }
 
@@ -173,16 +237,6 @@ fn parse_texts(alloc: Global, text: &[u8], out: &mut Vec<u8>) -> Result<bool, Al
         left = after_spaces(rest);
     }
     Ok(true)
-}
-
-/// Returns `true` for kinds that take all words that are left.
-fn takes_all(kind: Kind) -> bool
-    ensures { result ≡ takes_all kind }
-{
-    matches!(
-        kind,
-        Kind::Octets(Shown::Hex | Shown::Base64 | Shown::Other) | Kind::List(_)
-    )
 }
 
 /// Appends the octets of a word's field, whose number is in a form. Returns `false` if it is none of this kind.

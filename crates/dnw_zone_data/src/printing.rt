@@ -7,7 +7,9 @@ ghost use Rattle.dnw_zone_data.specs.Inside.Steps.{ReadsNext};
 ghost use Rattle.dnw_zone_data.specs.Printing.{Prints, PrintsU16, PrintsU48, PrintsU64, PrintsTime, PrintsCounted, PrintsOctets, PrintsStrings, AppendsFields};
 ghost use Rattle.dnw_zone_data.specs.Appending.{Appended, AppendedInPart};
 
+use crate::gateways::write_shaped;
 use crate::name::write_name;
+use crate::name_lists::write_names;
 use crate::params::write_param_list;
 use crate::types::write_types;
 use dnw_data::field::Field;
@@ -90,9 +92,9 @@ fn write_field(
         Field::Texts(items) => return write_strings(items.as_bytes(), out),
         Field::Types(items) => return write_types(items.as_bytes(), out),
         Field::Params(items) => return write_param_list(alloc, items.as_bytes(), out),
-        Field::Prefixes(_) | Field::Names(_) | Field::LongCounted(_) | Field::Shaped(_) => {
-            return Ok(false);
-        }
+        Field::Names(items) => return write_names(items.as_bytes(), out),
+        Field::Shaped(own) => return write_shaped(alloc, own.shape(), own.as_bytes(), out),
+        Field::Prefixes(_) | Field::LongCounted(_) => return Ok(false),
     }
     Ok(true)
 }

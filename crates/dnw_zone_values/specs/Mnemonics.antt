@@ -1,4 +1,4 @@
--- Numbers that have names in master files: algorithms of DNSSEC, and types of certificates. A name is in upper or lower case.
+-- Numbers that have names in master files: algorithms of DNSSEC, types of certificates, and schemes of DSYNC. A name is in upper or lower case.
 use Rattle.std.specs.Prelude.{◌≡◌, ◌≤◌, ℕ, Bool, true, false, if◌then◌else◌, List, [], ◌∷◌, codes, Option, Some, None}
 use Rattle.std.specs.Char.{is_ascii_digit}
 use Rattle.std.specs.Str.{str_eq_ignore_ascii_case}
@@ -45,6 +45,10 @@ certificate_type_named name =
     else if str_eq_ignore_ascii_case name (codes "URI") then Some 253
     else if str_eq_ignore_ascii_case name (codes "OID") then Some 254
     else None
+
+-- the number of a scheme of DSYNC (RFC 9859, section 2.1)
+abbrev pub scheme_named : List ℕ → Option ℕ
+scheme_named name = if str_eq_ignore_ascii_case name (codes "NOTIFY") then Some 1 else None
 
 abbrev pub begins_with_digit : List ℕ → Bool
 begins_with_digit [] = false

@@ -1,9 +1,9 @@
-//! Numbers that have names: algorithms of DNSSEC, and types of certificates.
+//! Numbers that have names: algorithms of DNSSEC, types of certificates, and schemes of DSYNC.
 //!
 //! They are printed as numbers, as `dig` prints them.
 ghost use Rattle.std.specs.Prelude.{◌≡◌};
 ghost use Rattle.std.specs.Str.{str_eq_ignore_ascii_case};
-ghost use Rattle.dnw_zone_values.specs.Mnemonics.{algorithm_named, begins_with_digit, certificate_type_named};
+ghost use Rattle.dnw_zone_values.specs.Mnemonics.{algorithm_named, begins_with_digit, certificate_type_named, scheme_named};
 
 /// Returns the number of an algorithm of DNSSEC by its mnemonic, in upper or lower case (IANA's registry "DNS Security Algorithm
 /// Numbers").
@@ -56,6 +56,17 @@ pub fn certificate_type_named(name: &str) -> Option<u8>
         _ if is_alike(name, "URI") => Some(253),
         _ if is_alike(name, "OID") => Some(254),
         _ => None,
+    }
+}
+
+/// Returns the number of a scheme of DSYNC by its mnemonic, in upper or lower case (RFC 9859, section 2.1).
+pub fn scheme_named(name: &str) -> Option<u8>
+    ensures { result ≡ scheme_named name.now }
+{
+    if is_alike(name, "NOTIFY") {
+        Some(1)
+    } else {
+        None
     }
 }
 

@@ -1,4 +1,6 @@
 use Rattle.dnw_zone_data.proofs.FieldsBack.{u8_back, u16_back, u32_back, time_back, type_back, ipv4_back, string_back, tag_back, salt_back, hash_back, octets_back, text_back, strings_back}
+use Rattle.dnw_zone_data.proofs.GatewaysBack.{shaped_back}
+use Rattle.dnw_zone_data.proofs.NameListsBack.{names_back}
 use Rattle.dnw_zone_data.proofs.NamesBack.{name_back}
 use Rattle.dnw_zone_data.proofs.ParamsBack.{params_back}
 use Rattle.dnw_zone_data.proofs.TypesBack.{types_back}
@@ -34,3 +36,9 @@ returns-clause-strings c = strings_back
 
 pub returns-clause-lists : goal.returns-clause-lists
 returns-clause-lists c = (types_back, params_back)
+
+pub returns-clause-shapes : goal.returns-clause-shapes
+returns-clause-shapes c = shaped_back
+
+pub returns-clause-names_in_lists : goal.returns-clause-names_in_lists
+returns-clause-names_in_lists c = names_back

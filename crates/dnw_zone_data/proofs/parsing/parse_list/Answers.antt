@@ -8,3 +8,6 @@ returns-in-Types c = rw c.in-Types.is c.parse_types.ensures
 
 pub returns-in-Params : goal.returns-in-Params
 returns-in-Params c = rw c.in-Params.is c.parse_params.ensures
+
+pub returns-in-Names : goal.returns-in-Names
+returns-in-Names c = rw c.in-Names.is c.parse_names.ensures

@@ -3,6 +3,7 @@ use Rattle.std.specs.Prelude.{string_bytes}
 use Rattle.dnw_zone_data.specs.Printing.{PrintsStrings}
 use Rattle.dnw_zone_data.specs.Appending.{Appended}
 use Rattle.dnw_zone_data.specs.TypeLists.{PrintsTypes}
+use Rattle.dnw_zone_data.specs.NameLists.{PrintsNames}
 use Rattle.dnw_zone_data.specs.ParamLists.{PrintsParams}
 use Rattle.dnw_zone_data.proofs.printing.write_field.Goals as goal
 
@@ -20,3 +21,8 @@ pub returns-in-Params : goal.returns-in-Params
 returns-in-Params c =
     let Is : List ℕ → Type 0 = λ own. IfOk c.write_param_list.result (Appended (PrintsParams own) (string_bytes c.args.out.now) (string_bytes c.write_param_list.new.out)) in
     rw c.in-Params.is (subst Is c.as_bytes-in-Params.ensures.octets c.write_param_list.ensures)
+
+pub returns-in-Names : goal.returns-in-Names
+returns-in-Names c =
+    let Is : List ℕ → Type 0 = λ own. IfOk c.write_names.result (Appended (PrintsNames own) (string_bytes c.args.out.now) (string_bytes c.write_names.new.out)) in
+    rw c.in-Names.is (subst Is c.as_bytes-in-Names.ensures.octets c.write_names.ensures)

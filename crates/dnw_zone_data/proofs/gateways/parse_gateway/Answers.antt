@@ -1,0 +1,8 @@
+use Rattle.std.specs.Option.{option_copied}
+use Rattle.dnw_zone_data.proofs.GatewayWords.{as_gateway}
+use Rattle.dnw_zone_data.proofs.gateways.parse_gateway.Goals as goal
+
+pub returns : goal.returns
+returns c =
+    as_gateway (option_copied c.args.origin) c.args.first.now c.args.second.now c.args.third.now c.args.out.now.items c.push.new.self.items c.push-2.new.self.items c.push_end.new.out.items
+    c.in-Some.gateway_type c.in-Some-octet_of.algorithm c.push_end.result c.in-Some.ensures c.in-Some-octet_of.ensures c.in_ok-push.ensures.items c.in_ok-push-2.ensures.items c.push_end.ensures

@@ -1,0 +1,10 @@
+use Rattle.dnw_zone_data.proofs.gateways.parse_shape.Goals as goal
+
+pub returns-in-Gateway : goal.returns-in-Gateway
+returns-in-Gateway c = rw c.in-Gateway.is c.parse_gateway.ensures
+
+pub returns-in-Relay : goal.returns-in-Relay
+returns-in-Relay c = rw c.in-Relay.is c.parse_relay.ensures
+
+pub returns-in-HostIdentity : goal.returns-in-HostIdentity
+returns-in-HostIdentity c = rw c.in-HostIdentity.is c.parse_identity.ensures
