@@ -4,6 +4,7 @@ pub mod NameReading
 pub mod Appending
 pub mod TypeLists
 pub mod ParamLists
+pub mod Locations
 pub mod Faults
 pub mod Generic
 pub mod Gateways

@@ -12,6 +12,7 @@ pub mod extent;
 mod gateways;
 pub mod generic;
 pub mod laws;
+mod location;
 pub mod name;
 mod name_lists;
 pub mod number_form;

@@ -15,4 +15,5 @@ pub mod Times
 pub mod Tags
 pub mod Base32
 pub mod Pairs
+pub mod Locations
 pub mod Inside

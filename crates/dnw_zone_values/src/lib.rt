@@ -15,6 +15,7 @@ mod items;
 mod keys;
 pub mod laws;
 mod lists;
+pub mod location;
 pub mod mandatory;
 pub mod mnemonic;
 pub mod number;
