@@ -12,3 +12,6 @@ pub mod Calendar
 pub mod PairsText
 pub mod Groups
 pub mod Identifiers
+pub mod LocationSteps
+pub mod OneLocation
+pub mod LocationWords

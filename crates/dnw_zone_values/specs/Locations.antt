@@ -19,12 +19,11 @@ before_point text = before_first is_point text
 abbrev pub after_point : List ℕ → List ℕ
 after_point text = after_first is_point text
 
--- The text is digits, with or without a point and at most so many digits after it. It writes this number of the parts that the
--- last of so many digits counts.
-abbrev pub IsScaled : ℕ → List ℕ → ℕ → Type 0
-IsScaled places text n =
-    AllDigits 10 (before_point text) × AllDigits 10 (after_point text) × (length (after_point text) ≤ places)
-    × (n ≡ digits_value 10 (before_point text) * 10 ^ places + digits_value 10 (after_point text) * 10 ^ (places - length (after_point text)))
+-- Digits before a point and at most so many after it write this number of the parts that the last of so many digits counts.
+abbrev pub IsScaled : ℕ → List ℕ → List ℕ → ℕ → Type 0
+IsScaled places whole part n =
+    AllDigits 10 whole × AllDigits 10 part × (length part ≤ places)
+    × (n ≡ digits_value 10 whole * 10 ^ places + digits_value 10 part * 10 ^ (places - length part))
 
 -- ---- angles: in thousandths of a second of arc from the equator or the prime meridian
 
@@ -55,7 +54,7 @@ origin = 2147483648
 
 -- seconds with up to three digits after a point
 abbrev pub IsSeconds : List ℕ → ℕ → Type 0
-IsSeconds text n = IsScaled 3 text n × (before_point text ≢ []) × (n < minute)
+IsSeconds text n = IsScaled 3 (before_point text) (after_point text) n × (1 ≤ length (before_point text)) × (n < minute)
 
 -- the letter says on which side of the origin the arc is
 abbrev pub IsOnSide : Axis → List ℕ → ℕ → ℕ → Type 0
@@ -99,7 +98,8 @@ without_unit text = if slice_index text (length text - 1) == 109 then take (leng
 
 -- digits with up to two after a point: one or more in all
 abbrev pub IsCentimetres : List ℕ → ℕ → Type 0
-IsCentimetres text n = IsScaled 2 text n × (1 ≤ length (before_point text) + length (after_point text))
+IsCentimetres text n =
+    IsScaled 2 (before_point text) (after_point text) n × (1 ≤ length (before_point text) + length (after_point text))
 
 -- metres after a sign
 abbrev pub IsMetres : List ℕ → ℕ → Type 0
@@ -123,7 +123,7 @@ max_size = 9000000000
 abbrev pub precision : ℕ → ℕ
 precision n = 16 * (slice_index (decimal n) 0 - 48) + (length (decimal n) - 1)
 
--- a size, or a precision; zero may have a sign
+-- a size, or a precision; only zero may have a minus
 abbrev pub IsSize : List ℕ → ℕ → Type 0
 IsSize text octet =
     (c : ℕ) × IsMetres text c × (starts_with_minus text ≡ true → c ≡ 0) × (c ≤ max_size) × (octet ≡ precision c)
@@ -170,7 +170,7 @@ location_at own =
       altitude = number_at own 12;
     }
 
--- a number on either side of the origin, and the arc between them
+-- a number on either side of the origin: the arc between them, and the letter of the side
 abbrev pub arc : ℕ → ℕ
 arc n = if nat_lt n origin then origin - n else n - origin
 
@@ -179,10 +179,10 @@ letter axis n = if nat_lt n origin then negative_letter axis else positive_lette
 
 -- two digits after a point, and three
 abbrev pub hundredths_text : ℕ → List ℕ
-hundredths_text n = decimal (n / 100) ++ 46 ∷ (48 + n / 10 % 10) ∷ (48 + n % 10) ∷ []
+hundredths_text n = decimal (n / 100) ++ 46 ∷ (decimal (n / 10 % 10) ++ decimal (n % 10))
 
 abbrev pub thousandths_text : ℕ → List ℕ
-thousandths_text n = decimal (n / 1000) ++ 46 ∷ (48 + n / 100 % 10) ∷ (48 + n / 10 % 10) ∷ (48 + n % 10) ∷ []
+thousandths_text n = decimal (n / 1000) ++ 46 ∷ (decimal (n / 100 % 10) ++ decimal (n / 10 % 10) ++ decimal (n % 10))
 
 abbrev pub angle_words : Axis → ℕ → List (List ℕ)
 angle_words axis n =
@@ -191,33 +191,41 @@ angle_words axis n =
 abbrev pub altitude_text : ℕ → List ℕ
 altitude_text n = (if nat_lt n depth then 45 ∷ hundredths_text (depth - n) else hundredths_text (n - depth)) ++ codes "m"
 
--- whole metres from one metre on
+-- the centimetres that an octet stands for, and whole metres from one metre on
+abbrev pub size_of : ℕ → ℕ
+size_of octet = octet / 16 * 10 ^ (octet % 16)
+
 abbrev pub size_text : ℕ → List ℕ
-size_text octet =
-    let n = octet / 16 * 10 ^ (octet % 16) in (if nat_lt (octet % 16) 2 then hundredths_text n else decimal (n / 100)) ++ codes "m"
+size_text octet = (if nat_lt (size_of octet) 100 then hundredths_text (size_of octet) else decimal (size_of octet / 100)) ++ codes "m"
 
 abbrev pub location_words : Location → List (List ℕ)
 location_words l =
     angle_words Latitude l.latitude ++ angle_words Longitude l.longitude
     ++ altitude_text l.altitude ∷ size_text l.size ∷ size_text l.horizontal ∷ size_text l.vertical ∷ []
 
--- each word after a space
-abbrev pub location_text : Location → List ℕ
-location_text l = flat_map (λ w. 32 ∷ w) (location_words l)
+-- words, each after a space
+abbrev pub spaced : List (List ℕ) → List ℕ
+spaced words = flat_map (λ w. 32 ∷ w) words
 
--- an octet that a size is written as: no other one has such a digit and such a number of digits, and of zeros one is enough
+abbrev pub location_text : Location → List ℕ
+location_text l = spaced (location_words l)
+
+-- an octet that a size is written as: a digit, and how many zeros are after it; after no digit but zero there are none
 abbrev pub is_precision : ℕ → Bool
 is_precision octet = nat_lt octet 160 && nat_lt (octet % 16) 10 && (nat_le 16 octet || octet == 0)
 
 abbrev pub is_angle : Axis → ℕ → Bool
 is_angle axis n = nat_le (arc n) (max_degrees axis * degree)
 
--- octets of version 0 that can be written as a text
-abbrev pub has_location_text : List ℕ → Bool
-has_location_text own =
-    length own == 16 && slice_index own 0 == 0 && is_precision (slice_index own 1) && is_precision (slice_index own 2) && is_precision (slice_index own 3)
-    && is_angle Latitude (number_at own 4) && is_angle Longitude (number_at own 8)
+-- a location with a text
+abbrev pub is_location : Location → Bool
+is_location l =
+    is_angle Latitude l.latitude && is_angle Longitude l.longitude && is_precision l.size && is_precision l.horizontal && is_precision l.vertical
+
+-- the octets are 16, of version 0
+abbrev pub has_version : List ℕ → Bool
+has_version own = length own == 16 && slice_index own 0 == 0
 
 -- the text is that of the octets
 abbrev pub PrintsLocation : List ℕ → List ℕ → Type 0
-PrintsLocation own text = (has_location_text own ≡ true) × (text ≡ location_text (location_at own))
+PrintsLocation own text = (has_version own ≡ true) × (is_location (location_at own) ≡ true) × (text ≡ location_text (location_at own))

@@ -1,0 +1,12 @@
+use Rattle.std.proofs.Common.{◌≡◌, ◌≤◌, ◌+◌, ◌-◌, length}
+use Rattle.std.specs.List.{position_or_len}
+use Rattle.dnw_zone_values.specs.Locations.{is_point}
+use Rattle.dnw_zone_values.proofs.location.point_len.Given as goal
+
+abbrev pub invariant-loop-first : goal.invariant-loop-first
+invariant-loop-first l =
+    (length l.left ≤ length l.text)
+    × ((length l.text - length l.left) + position_or_len is_point l.left ≡ position_or_len is_point l.text)
+
+abbrev pub decreases-loop-first : goal.decreases-loop-first
+decreases-loop-first l = length l.left
