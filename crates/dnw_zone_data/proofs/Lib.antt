@@ -33,3 +33,5 @@ pub mod Pushed
 pub mod NamesRead
 pub mod WordParts
 mod Marks
+pub mod LocationWords
+pub mod LocationsBack

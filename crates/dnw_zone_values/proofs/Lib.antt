@@ -15,3 +15,4 @@ pub mod Identifiers
 pub mod LocationSteps
 pub mod OneLocation
 pub mod LocationWords
+pub mod LocationsBack

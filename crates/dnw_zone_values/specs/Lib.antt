@@ -16,4 +16,5 @@ pub mod Tags
 pub mod Base32
 pub mod Pairs
 pub mod Locations
+pub mod LocationLaws
 pub mod Inside

@@ -16,6 +16,7 @@ mod keys;
 pub mod laws;
 mod lists;
 pub mod location;
+pub mod location_laws;
 pub mod mandatory;
 pub mod mnemonic;
 pub mod number;

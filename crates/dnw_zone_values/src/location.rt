@@ -433,7 +433,7 @@ pub fn location_octets(location: &Location) -> [u8; 16]
 
 /// Appends the text of the octets of a location, each word after a space. Returns `false` if they have none, and appends nothing:
 /// they are not of version 0, an angle has too many degrees, or a size is none that is read from a text.
-pub fn write_location(octets: &[u8], out: &mut String) -> Result<bool, AllocError>
+pub fn append_location(octets: &[u8], out: &mut String) -> Result<bool, AllocError>
     ensures yes { IfOk result (λ has. has ≡ true → PrintsLocation octets.now (location_text (location_at octets.now))
         × (string_bytes out.new ≡ string_bytes out.old ++ location_text (location_at octets.now))) }
     ensures no { IfOk result (λ has. has ≡ false → ((text : List ℕ) → ¬ (PrintsLocation octets.now text)) × (string_bytes out.new ≡ string_bytes out.old)) }

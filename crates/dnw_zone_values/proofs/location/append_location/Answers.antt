@@ -4,7 +4,7 @@ use Rattle.dnw_zone_values.specs.declared.location.Axis.TheVariants.{Latitude, L
 use Rattle.dnw_zone_values.specs.declared.location.Location.{Location}
 use Rattle.dnw_zone_values.specs.Locations.{altitude_text, angle_words, is_location, location_at, location_text, size_text}
 use Rattle.dnw_zone_values.proofs.LocationWords.{one_after_another}
-use Rattle.dnw_zone_values.proofs.location.write_location.Goals as goal
+use Rattle.dnw_zone_values.proofs.location.append_location.Goals as goal
 
 pub returns-clause-yes : goal.returns-clause-yes
 returns-clause-yes c = λ _.
