@@ -150,6 +150,7 @@ def field(kind):
         "octets": rest,
         "long time": lambda: number(6),
         "locator": lambda: number(8),
+        "node number": lambda: number(8),
         "long octets": lambda: long_counted(octets(0, 1, 4, 16, 32, 64, 300)),
         "location": loc,
         "gateway": lambda: gateway(lambda kind: bytes([kind]) + number(1)),

@@ -27,6 +27,7 @@ field_kind kinds.U48 = 2
 field_kind kinds.U64 = 2
 field_kind kinds.LongTime = 2
 field_kind kinds.Locator = 2
+field_kind kinds.NodeNumber = 2
 field_kind kinds.ChaosAddress = 2
 field_kind kinds.Ipv4 = 3
 field_kind kinds.Ipv6 = 4

@@ -130,7 +130,7 @@ pub(crate) fn plain_size(kind: Kind, left: usize) -> Option<usize>
         Kind::U16 | Kind::TypeCode | Kind::ChaosAddress => Some(2),
         Kind::U32 | Kind::Ipv4 | Kind::Time => Some(4),
         Kind::U48 | Kind::LongTime => Some(6),
-        Kind::U64 | Kind::Locator => Some(8),
+        Kind::U64 | Kind::Locator | Kind::NodeNumber => Some(8),
         Kind::Ipv6 => Some(16),
         Kind::Octets(_) => Some(left),
         _ => None,
@@ -168,7 +168,7 @@ pub(crate) fn field_kind(kind: Kind) -> u32
     match kind {
         Kind::Name(_) => 1,
         Kind::U8 | Kind::U16 | Kind::U32 | Kind::U48 | Kind::U64 => 2,
-        Kind::LongTime | Kind::Locator | Kind::ChaosAddress => 2,
+        Kind::LongTime | Kind::Locator | Kind::NodeNumber | Kind::ChaosAddress => 2,
         Kind::Ipv4 => 3,
         Kind::Ipv6 => 4,
         Kind::TypeCode => 5,

@@ -2,11 +2,11 @@
 use Rattle.std.specs.Prelude.{ℕ, Bool, ◌==◌, ◌&&◌, ◌||◌, not, if◌then◌else◌, List, [], ◌∷◌, ◌++◌, find, unwrap_or, slice_index}
 use Rattle.std.specs.List.{list_any}
 use Rattle.dnw_data.specs.declared.kind.Kind.{Kind}
-use Rattle.dnw_data.specs.declared.kind.Kind.TheVariants.{Name, U8, U16, U32, U48, U64, Ipv4, Ipv6, TypeCode, Time, LongTime, Locator, ChaosAddress, Counted, LongCounted, Shaped, Octets}
+use Rattle.dnw_data.specs.declared.kind.Kind.TheVariants.{Name, U8, U16, U32, U48, U64, Ipv4, Ipv6, TypeCode, Time, LongTime, Locator, NodeNumber, ChaosAddress, Counted, LongCounted, Shaped, Octets}
 use Rattle.dnw_data.specs.declared.kind.Kind.TheVariants as kinds
 use Rattle.dnw_data.specs.declared.kind.ListKind.TheVariants as lists
 use Rattle.dnw_data.specs.declared.kind.NameForm.TheVariants.{Compressible, Lowered, Plain}
-use Rattle.dnw_data.specs.declared.kind.Shown.TheVariants.{Text, Tag, Hex, Base32Hex, Base64, Other}
+use Rattle.dnw_data.specs.declared.kind.Shown.TheVariants.{Text, Tag, Hex, Base32Hex, Base64, MaybeBase64, Nsap, Ports, OldTypes}
 use Rattle.dnw_data.specs.declared.kind.Shape.TheVariants as shapes
 
 -- A row of the table: a type's code, and the kinds of its fields.
@@ -37,9 +37,19 @@ hex = Octets Hex
 abbrev pub base64 : Kind
 base64 = Octets Base64
 
--- in a form of the type's own
-abbrev pub other : Kind
-other = Octets Other
+-- in base 64, or as `-`
+abbrev pub maybe_base64 : Kind
+maybe_base64 = Octets MaybeBase64
+
+abbrev pub nsap : Kind
+nsap = Octets Nsap
+
+-- of a bitmap without windows: ports, and record types
+abbrev pub ports : Kind
+ports = Octets Ports
+
+abbrev pub old_types : Kind
+old_types = Octets OldTypes
 
 abbrev pub long : Kind
 long = LongCounted Base64
@@ -72,7 +82,7 @@ early_rows =
     ∷ row 8 (name ∷ [])  -- MG (RFC 1035, section 3.3.6)
     ∷ row 9 (name ∷ [])  -- MR (RFC 1035, section 3.3.8)
     ∷ row 10 (hex ∷ [])  -- NULL (RFC 1035, section 3.3.10)
-    ∷ row 11 (Ipv4 ∷ U8 ∷ other ∷ [])  -- WKS (RFC 1035, section 3.4.2)
+    ∷ row 11 (Ipv4 ∷ U8 ∷ ports ∷ [])  -- WKS (RFC 1035, section 3.4.2)
     ∷ row 12 (name ∷ [])  -- PTR (RFC 1035, section 3.3.12)
     ∷ row 13 (text ∷ text ∷ [])  -- HINFO (RFC 1035, section 3.3.2)
     ∷ row 14 (name ∷ name ∷ [])  -- MINFO (RFC 1035, section 3.3.7)
@@ -83,7 +93,7 @@ early_rows =
     ∷ row 19 (text ∷ [])  -- X25 (RFC 1183, section 3.1)
     ∷ row 20 (texts ∷ [])  -- ISDN (RFC 1183, section 3.2)
     ∷ row 21 (U16 ∷ lowered_name ∷ [])  -- RT (RFC 1183, section 3.3)
-    ∷ row 22 (hex ∷ [])  -- NSAP (RFC 1706, section 5)
+    ∷ row 22 (nsap ∷ [])  -- NSAP (RFC 1706, section 5)
     ∷ row 23 (plain ∷ [])  -- NSAP-PTR (RFC 1706, section 6)
     ∷ row 24 (TypeCode ∷ U8 ∷ U8 ∷ U32 ∷ Time ∷ Time ∷ U16 ∷ lowered_name ∷ base64 ∷ [])  -- SIG (RFC 2535, section 4.1)
     ∷ row 25 (U16 ∷ U8 ∷ U8 ∷ base64 ∷ [])  -- KEY (RFC 2535, section 3.1)
@@ -91,7 +101,7 @@ early_rows =
     ∷ row 27 (text ∷ text ∷ text ∷ [])  -- GPOS (RFC 1712, section 3)
     ∷ row 28 (Ipv6 ∷ [])  -- AAAA (RFC 3596, section 2.2)
     ∷ row 29 (Shaped shapes.Location ∷ [])  -- LOC (RFC 1876, section 2)
-    ∷ row 30 (lowered_name ∷ other ∷ [])  -- NXT (RFC 2535, section 5.2)
+    ∷ row 30 (lowered_name ∷ old_types ∷ [])  -- NXT (RFC 2535, section 5.2)
     ∷ []
 
 -- those from there to 68
@@ -145,12 +155,12 @@ late_rows =
     ∷ row 256 (U16 ∷ U16 ∷ Octets Text ∷ [])  -- URI (RFC 7553, section 4.2)
     ∷ row 257 (U8 ∷ Counted Tag ∷ Octets Text ∷ [])  -- CAA (RFC 8659, section 4.1)
     ∷ row 258 (texts ∷ [])  -- AVC (the template AVC of the registry)
-    ∷ row 259 (U32 ∷ U32 ∷ U8 ∷ text ∷ other ∷ [])  -- DOA (the template DOA of the registry)
+    ∷ row 259 (U32 ∷ U32 ∷ U8 ∷ text ∷ maybe_base64 ∷ [])  -- DOA (the template DOA of the registry)
     ∷ row 260 (U8 ∷ Shaped shapes.Relay ∷ [])  -- AMTRELAY (RFC 8777, section 4.2)
     ∷ row 261 (texts ∷ [])  -- RESINFO (RFC 9606, section 4)
     ∷ row 262 (texts ∷ [])  -- WALLET (the template WALLET of the registry)
     ∷ row 263 (texts ∷ [])  -- CLA (the template CLA of the registry)
-    ∷ row 264 (Locator ∷ [])  -- IPN (the template IPN of the registry)
+    ∷ row 264 (NodeNumber ∷ [])  -- IPN (the template IPN of the registry)
     ∷ row 32768 (U16 ∷ U8 ∷ U8 ∷ hex ∷ [])  -- TA (the registry's reference for it: as DS)
     ∷ row 32769 (U16 ∷ U8 ∷ U8 ∷ hex ∷ [])  -- DLV (RFC 4431, section 2)
     ∷ []

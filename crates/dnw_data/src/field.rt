@@ -229,7 +229,7 @@ fn own_size(kind: Kind, left: &[u8]) -> usize
         Kind::U16 | Kind::TypeCode | Kind::ChaosAddress => 2,
         Kind::U32 | Kind::Ipv4 | Kind::Time => 4,
         Kind::U48 | Kind::LongTime => 6,
-        Kind::U64 | Kind::Locator => 8,
+        Kind::U64 | Kind::Locator | Kind::NodeNumber => 8,
         Kind::Ipv6 => 16,
         Kind::Counted(_) => counted_size(left),
         Kind::LongCounted(_) => long_counted_size(left),
@@ -273,7 +273,7 @@ fn of_octets<'r>(kind: Kind, own: &'r [u8]) -> Result<Field<'r>, DecodeError>
         Kind::U48 | Kind::LongTime => Ok(Field::U48(u64::from_be_bytes([
             0, 0, own[0], own[1], own[2], own[3], own[4], own[5],
         ]))),
-        Kind::U64 | Kind::Locator => Ok(Field::U64(u64::from_be_bytes(
+        Kind::U64 | Kind::Locator | Kind::NodeNumber => Ok(Field::U64(u64::from_be_bytes(
             *own.first_chunk::<8>().unwrap(),
         ))),
         Kind::Ipv4 => Ok(Field::Ipv4(Ipv4Addr::from(*own.first_chunk::<4>().unwrap()))),

@@ -27,6 +27,8 @@ pub enum Kind {
     LongTime,
     /// An identifier of a node or of an endpoint, or a locator, of eight octets (RFC 6742, sections 2.1.1 and 2.3.1).
     Locator,
+    /// The number of a node, of eight octets (the template IPN of the registry).
+    NodeNumber,
     /// An address of Chaosnet, of two octets (RFC 1035, section 3.6).
     ChaosAddress,
     /// A length octet and that many octets: a character string (RFC 1035, section 3.3), or octets that are shown otherwise.
@@ -65,8 +67,14 @@ pub enum Shown {
     Base32Hex,
     /// In base 64 (RFC 4648, section 4).
     Base64,
-    /// In a form of their type's own, which is not written here.
-    Other,
+    /// In base 64, or as `-` if there are none (the template DOA of the registry).
+    MaybeBase64,
+    /// In hexadecimal after `0x`, with any dots (RFC 1706, section 5).
+    Nsap,
+    /// As the ports whose bits are set (RFC 1035, section 3.4.2).
+    Ports,
+    /// As the record types whose bits are set, of at most 128 types (RFC 2535, section 5.2).
+    OldTypes,
 }
 
 /// What the items of a list are.

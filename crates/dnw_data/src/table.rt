@@ -40,8 +40,17 @@ const BASE64: Kind = Kind::Octets(Shown::Base64);
 /// Octets up to the end, shown as text.
 const VALUE: Kind = Kind::Octets(Shown::Text);
 
-/// Octets up to the end, in a form of the type's own.
-const OTHER: Kind = Kind::Octets(Shown::Other);
+/// Octets up to the end, shown in base 64 or as `-`.
+const MAYBE_BASE64: Kind = Kind::Octets(Shown::MaybeBase64);
+
+/// An address of NSAP.
+const NSAP: Kind = Kind::Octets(Shown::Nsap);
+
+/// The ports of a bitmap.
+const PORTS: Kind = Kind::Octets(Shown::Ports);
+
+/// The record types of a bitmap without windows.
+const OLD_TYPES: Kind = Kind::Octets(Shown::OldTypes);
 
 /// A length of two octets, and octets.
 const LONG: Kind = Kind::LongCounted(Shown::Base64);
@@ -208,7 +217,7 @@ fn early_fields_of(code: u16) -> &'static [Kind]
         8 => &[NAME], // MG
         9 => &[NAME], // MR
         10 => &[HEX], // NULL
-        11 => &[Kind::Ipv4, Kind::U8, OTHER], // WKS
+        11 => &[Kind::Ipv4, Kind::U8, PORTS], // WKS
         12 => &[NAME], // PTR
         13 => &[TEXT, TEXT], // HINFO
         14 => &[NAME, NAME], // MINFO
@@ -219,7 +228,7 @@ fn early_fields_of(code: u16) -> &'static [Kind]
         19 => &[TEXT], // X25
         20 => &[TEXTS], // ISDN
         21 => &[Kind::U16, LOWERED], // RT
-        22 => &[HEX], // NSAP
+        22 => &[NSAP], // NSAP
         23 => &[PLAIN], // NSAP-PTR
         24 => &SIGNATURE, // SIG
         25 => &[Kind::U16, Kind::U8, Kind::U8, BASE64], // KEY
@@ -227,7 +236,7 @@ fn early_fields_of(code: u16) -> &'static [Kind]
         27 => &[TEXT, TEXT, TEXT], // GPOS
         28 => &[Kind::Ipv6], // AAAA
         29 => &[Kind::Shaped(Shape::Location)], // LOC
-        30 => &[LOWERED, OTHER], // NXT
+        30 => &[LOWERED, OLD_TYPES], // NXT
         middle_code => middle_fields_of(middle_code),
     }
 }
@@ -289,12 +298,12 @@ fn late_fields_of(code: u16) -> &'static [Kind]
         256 => &[Kind::U16, Kind::U16, VALUE], // URI
         257 => &[Kind::U8, TAG, VALUE], // CAA
         258 => &[TEXTS], // AVC
-        259 => &[Kind::U32, Kind::U32, Kind::U8, TEXT, OTHER], // DOA
+        259 => &[Kind::U32, Kind::U32, Kind::U8, TEXT, MAYBE_BASE64], // DOA
         260 => &[Kind::U8, Kind::Shaped(Shape::Relay)], // AMTRELAY
         261 => &[TEXTS], // RESINFO
         262 => &[TEXTS], // WALLET
         263 => &[TEXTS], // CLA
-        264 => &[Kind::Locator], // IPN
+        264 => &[Kind::NodeNumber], // IPN
         32768 => &[Kind::U16, Kind::U8, Kind::U8, HEX], // TA
         32769 => &[Kind::U16, Kind::U8, Kind::U8, HEX], // DLV
         _ => &[HEX],

@@ -224,7 +224,7 @@ fn plain_size(kind: Kind, octets: &[u8]) -> Option<usize>
         Kind::U16 | Kind::TypeCode | Kind::ChaosAddress => Some(2),
         Kind::U32 | Kind::Ipv4 | Kind::Time => Some(4),
         Kind::U48 | Kind::LongTime => Some(6),
-        Kind::U64 | Kind::Locator => Some(8),
+        Kind::U64 | Kind::Locator | Kind::NodeNumber => Some(8),
         Kind::Ipv6 => Some(16),
         Kind::Octets(_) => Some(octets.len()),
         Kind::Counted(_) => Some(counted_size(octets)),

@@ -24,6 +24,7 @@ IsFieldOf kinds.U48 (u48 n) = n < 2 ^ 48
 IsFieldOf kinds.U64 (u64 n) = Unit {0}
 IsFieldOf kinds.LongTime (u48 n) = n < 2 ^ 48
 IsFieldOf kinds.Locator (u64 n) = Unit {0}
+IsFieldOf kinds.NodeNumber (u64 n) = Unit {0}
 IsFieldOf kinds.ChaosAddress (u16 n) = Unit {0}
 IsFieldOf kinds.Ipv4 (ipv4 own) = Unit {0}
 IsFieldOf kinds.Ipv6 (ipv6 segments) = Unit {0}

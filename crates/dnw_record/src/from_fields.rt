@@ -170,7 +170,7 @@ fn is_field_of(kind: Kind, field: &Field<'_>) -> bool
         (Kind::U16 | Kind::ChaosAddress, Field::U16(_)) => true,
         (Kind::U32, Field::U32(_)) => true,
         (Kind::U48 | Kind::LongTime, Field::U48(number)) => *number < 1 << 48,
-        (Kind::U64 | Kind::Locator, Field::U64(_)) => true,
+        (Kind::U64 | Kind::Locator | Kind::NodeNumber, Field::U64(_)) => true,
         (Kind::Ipv4, Field::Ipv4(_)) => true,
         (Kind::Ipv6, Field::Ipv6(_)) => true,
         (Kind::TypeCode, Field::TypeCode(code)) => RecordType::from(u16::from(*code)) == *code,
