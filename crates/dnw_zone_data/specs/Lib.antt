@@ -3,6 +3,8 @@ pub mod NumberForms
 pub mod NameReading
 pub mod Appending
 pub mod TypeLists
+pub mod PrefixLists
+pub mod Identifiers
 pub mod ParamLists
 pub mod Locations
 pub mod Faults

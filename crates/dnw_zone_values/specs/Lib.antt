@@ -17,4 +17,7 @@ pub mod Base32
 pub mod Pairs
 pub mod Locations
 pub mod LocationLaws
+pub mod Prefixes
+pub mod Locators
+pub mod Nsap
 pub mod Inside

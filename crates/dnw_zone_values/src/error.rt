@@ -35,6 +35,15 @@ pub enum FieldTextError {
     /// An identifier was wanted: pairs of hexadecimal digits with hyphens between them.
     #[error("wanted pairs of hexadecimal digits with hyphens between them")]
     Pairs,
+    /// An address prefix was wanted: `!` or nothing, a family of 1 or 2, `:`, an address, `/` and a number of bits.
+    #[error("wanted an address prefix, as 1:192.0.2.0/24 or !2:2001:db8::/32")]
+    Prefix,
+    /// A locator was wanted: four groups of one to four hexadecimal digits with colons between them.
+    #[error("wanted four groups of hexadecimal digits with colons between them")]
+    Locator,
+    /// An address of NSAP was wanted: `0x`, and octets in hexadecimal with any dots.
+    #[error("wanted 0x and octets in hexadecimal, with dots or without")]
+    Nsap,
     /// An IPv4 address was wanted.
     #[error("wanted an IPv4 address")]
     Ipv4,

@@ -67,7 +67,7 @@ impl fmt::Display for Salt<'_> {
 pub fn parse_hexadecimal(text: &str, octets: &mut Vec<u8>) -> Result<(), FieldTextError>
     ensures { Appends HexWanted IsHexText text.now octets.old.items octets.new.items result }
 {
-    append_hexadecimal(text, FieldTextError::Hexadecimal, octets)
+    append_hexadecimal(text.as_bytes(), FieldTextError::Hexadecimal, octets)
 }
 
 /// Appends the octets that a text writes in base 64 with its padding.
@@ -100,14 +100,14 @@ pub fn parse_salt(text: &str, octets: &mut Vec<u8>) -> Result<(), FieldTextError
         return Ok(());
     }
     match text.len() {
-        1..=510 => append_hexadecimal(text, FieldTextError::Salt, octets),
+        1..=510 => append_hexadecimal(text.as_bytes(), FieldTextError::Salt, octets),
         _ => Err(FieldTextError::Salt),
     }
 }
 
 /// Appends the octets that a text writes in hexadecimal. Fails with `wanted` if the text is something else.
-fn append_hexadecimal(
-    text: &str,
+pub(crate) fn append_hexadecimal(
+    text: &[u8],
     wanted: FieldTextError,
     octets: &mut Vec<u8>,
 ) -> Result<(), FieldTextError>

@@ -35,7 +35,7 @@ impl fmt::Display for Pairs<'_> {
 }
 
 /// Returns the digit of a number below 16.
-fn lower_digit(number: u8) -> u8
+pub(crate) fn lower_digit(number: u8) -> u8
     requires { number < 16 }
     ensures is { result ≡ lower_digit number }
     ensures ascii { result < 128 }

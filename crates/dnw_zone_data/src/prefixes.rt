@@ -1,0 +1,72 @@
+//! Lists of address prefixes (RFC 3123, section 5).
+ghost use Rattle.std.specs.Prelude.{◌≡◌, ◌++◌, ℕ, List, IfOk, string_bytes};
+ghost use Rattle.dnw_zone_data.specs.PrefixLists.{ArePrefixes, PrintsPrefixes};
+ghost use Rattle.dnw_zone_data.specs.Appending.{Appended, AppendedInPart, AppendsOne};
+ghost use Rattle.dnw_zone_values.specs.Inside.Steps.{PushesOne};
+ghost use Rattle.dnw_zone_values.specs.Prefixes.{IsPrefixText};
+
+use crate::words::{after_spaces, split_word};
+use dnw_zone_values::error::FieldTextError;
+use dnw_zone_values::prefix::{parse_prefix, write_prefix};
+use std::alloc::AllocError;
+
+/// The number of octets of a prefix before those of its address.
+const HEAD: usize = 4;
+
+/// Appends the octets of the prefixes that all words are. Returns `false` if one is none.
+pub(crate) fn parse_prefixes(text: &[u8], out: &mut Vec<u8>) -> Result<bool, AllocError>
+    ensures { IfOk result (AppendsOne (ArePrefixes text.now) out.old.items out.new.items) }
+{
+    let mut left = after_spaces(text);
+    'prefixes: while !left.is_empty() {
+        let (word, rest) = split_word(left);
+        if !push_prefix(word, out)? {
+            return Ok(false);
+        }
+        left = after_spaces(rest);
+    }
+    Ok(true)
+}
+
+/// Appends the octets of a prefix. Returns `false` if the word is none.
+fn push_prefix(word: &[u8], out: &mut Vec<u8>) -> Result<bool, AllocError>
+    ensures { IfOk result (PushesOne (IsPrefixText word.now) out.old.items out.new.items) }
+{
+    match parse_prefix(word, out) {
+        Ok(()) => Ok(true),
+        Err(FieldTextError::Memory) => Err(AllocError),
+        Err(_) => Ok(false),
+    }
+}
+
+/// Appends the text of prefixes, each after a space. Returns `false` if the octets end within one, or one has no text; nothing is
+/// changed then.
+pub(crate) fn write_prefixes(octets: &[u8], out: &mut String) -> Result<bool, AllocError>
+    ensures { IfOk result (Appended (PrintsPrefixes octets.now) (string_bytes out.old) (string_bytes out.new)) }
+{
+    let start = out.len();
+    let is_whole = push_prefixes(octets, out)?;
+    if !is_whole {
+        out.truncate(start);
+    }
+    Ok(is_whole)
+}
+
+/// Appends the text of prefixes. Returns `false` if the octets end within one, or one has no text; some may be appended then.
+fn push_prefixes(octets: &[u8], out: &mut String) -> Result<bool, AllocError>
+    ensures { IfOk result (AppendedInPart (PrintsPrefixes octets.now) (string_bytes out.old) (string_bytes out.new)) }
+{
+    let mut left = octets;
+    while let [_, _, _, count, ..] = left {
+        let size = HEAD + usize::from(*count % 128);
+        let Some((own, after)) = left.split_at_checked(size) else {
+            return Ok(false);
+        };
+        out.push(' ')?;
+        if !write_prefix(own, out)? {
+            return Ok(false);
+        }
+        left = after;
+    }
+    Ok(left.is_empty())
+}
