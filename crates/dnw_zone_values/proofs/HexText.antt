@@ -15,7 +15,7 @@ use Rattle.dnw_zone_values.specs.Spelling.{Appends}
 use Rattle.dnw_zone_values.specs.declared.error.FieldTextError.{FieldTextError}
 use Rattle.dnw_zone_values.specs.declared.error.FieldTextError.TheVariants.{Salt}
 
-encode_with_append : (t xs : List ℕ) (b : ℕ) → encode_with t (xs ++ b ∷ []) ≡ encode_with t xs ++ slice_index t (b / 16) ∷ slice_index t (b % 16) ∷ []
+pub encode_with_append : (t xs : List ℕ) (b : ℕ) → encode_with t (xs ++ b ∷ []) ≡ encode_with t xs ++ slice_index t (b / 16) ∷ slice_index t (b % 16) ∷ []
 unfolding encode_with
 encode_with_append t [] b = refl
 encode_with_append t (x ∷ xs) b = ap (λ (rest : List ℕ). slice_index t (x / 16) ∷ slice_index t (x % 16) ∷ rest) (encode_with_append t xs b)

@@ -16,3 +16,7 @@ pub mod LocationSteps
 pub mod OneLocation
 pub mod LocationWords
 pub mod LocationsBack
+pub mod PrefixesBack
+pub mod PrefixTextsBack
+pub mod LocatorsBack
+pub mod NsapBack

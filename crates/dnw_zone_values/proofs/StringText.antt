@@ -6,7 +6,7 @@ use Rattle.std.specs.Char.{is_ascii_digit}
 use Rattle.std.proofs.lemmas.Bool.{cases_eq, cases_Bool, ne_eqb, lt-ltb}
 use Rattle.dnw_zone_values.specs.Octets.{IsOctets}
 use Rattle.dnw_zone_values.specs.Spelling.{ComesBack}
-use Rattle.dnw_zone_values.specs.Inside.Takes.{after, is_string_mark, octets_at, string_run_len, IsNoText, Pushes}
+use Rattle.dnw_zone_values.specs.Inside.Takes.{after, octets_at, string_run_len, IsNoText, Pushes}
 
 -- one octet more
 pub after_more : (found : List ℕ) (o : ℕ) (octets : Option (List ℕ)) → after found (with_octet o octets) ≡ after (found ++ o ∷ []) octets

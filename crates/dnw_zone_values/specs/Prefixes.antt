@@ -2,7 +2,7 @@
 -- the length of the prefix in bits. And as octets (section 4): the family, the length, a bit that negates and the number of octets of
 -- the address, which are those without zeros at the end. Bits of the address after the prefix stay as they are. IPv4 and IPv6 have a
 -- text (sections 4.1 and 4.2), and other families have none.
-use Rattle.std.specs.Prelude.{ℕ, ◌≡◌, ◌≤◌, ◌+◌, ◌-◌, ◌%◌, ◌==◌, ◌&&◌, ◌⊎◌, Bool, true, false, not, nat_le, if◌then◌else◌, List, [], ◌∷◌, ◌++◌, length, take, drop, replicate, slice_index, slice_range, decimal, Option, Some, None}
+use Rattle.std.specs.Prelude.{ℕ, ◌≡◌, ◌+◌, ◌-◌, ◌%◌, ◌==◌, ◌&&◌, ◌||◌, ◌⊎◌, Bool, true, false, not, nat_le, if◌then◌else◌, List, [], ◌∷◌, ◌++◌, length, drop, replicate, slice_index, slice_range, codes, decimal, Option, Some, None}
 use Rattle.std.specs.Int.{w16, from_be_bytes, to_be_bytes}
 use Rattle.std.specs.List.{before_first, after_first}
 use Rattle.std.specs.Net.Addr.{ipv4_octets, ipv6_segments, segments_of, octets_of}
@@ -98,29 +98,34 @@ abbrev pub ends_well : List ℕ → Bool
 ends_well [] = true
 ends_well (o ∷ octets) = not (slice_index (o ∷ octets) (length octets) == 0)
 
+-- the length of a prefix of a family, and the octets of its address, are not too many, and there are no zeros at the end
+abbrev pub is_shown_of : ℕ → ℕ → List ℕ → Bool
+is_shown_of family bits own = nat_le bits (longest_prefix family) && (nat_le (length own) (address_size family) && ends_well own)
+
 -- the octets are a prefix of IPv4 or IPv6
 abbrev pub is_shown : List ℕ → Bool
 is_shown own =
-    nat_le 1 (family_of own) && nat_le (family_of own) 2 && nat_le 4 (length own) && nat_le (slice_index own 2) (longest_prefix (family_of own))
-    && (slice_index own 3 % 128 == length own - 4) && nat_le (length own - 4) (address_size (family_of own)) && ends_well (drop 4 own)
+    nat_le 4 (length own)
+    && ((slice_index own 3 % 128 == length own - 4) && (((family_of own == 1) || (family_of own == 2)) && is_shown_of (family_of own) (slice_index own 2) (drop 4 own)))
 
 -- octets and zeros after them, so many
 abbrev pub padded : ℕ → List ℕ → List ℕ
 padded size own = own ++ replicate (size - length own) 0
 
+-- the number of a family, and an address
 abbrev pub address_text : ℕ → List ℕ → List ℕ
-address_text family own = if family == 1 then ipv4_text (padded 4 own) else ipv6_text (segments_of (padded 16 own))
+address_text family own = if family == 1 then codes "1:" ++ ipv4_text (padded 4 own) else codes "2:" ++ ipv6_text (segments_of (padded 16 own))
 
 abbrev pub negation_text : Bool → List ℕ
 negation_text false = []
 negation_text true = negation ∷ []
 
+abbrev pub shown_text : List ℕ → List ℕ
+shown_text own = negation_text (negates own) ++ (address_text (family_of own) (drop 4 own) ++ slash ∷ decimal (slice_index own 2))
+
 -- the text of a prefix, if it has one
 abbrev pub prefix_text : List ℕ → Option (List ℕ)
-prefix_text own =
-    if is_shown own
-    then Some (negation_text (negates own) ++ decimal (family_of own) ++ colon ∷ address_text (family_of own) (drop 4 own) ++ slash ∷ decimal (slice_index own 2))
-    else None
+prefix_text own = if is_shown own then Some (shown_text own) else None
 
 -- What is printed of a prefix is parsed as it, and as no other.
 abbrev pub PrefixesComeBack : Type 0

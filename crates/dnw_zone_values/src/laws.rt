@@ -1,7 +1,7 @@
 //! What is printed of a value is parsed as the same value, for each kind.
 //!
 //! The functions do nothing. Each is there for its clauses.
-ghost use Rattle.std.specs.Prelude.{◌≡◌, ℕ, List, ◌≤◌, decimal};
+ghost use Rattle.std.specs.Prelude.{◌≡◌, ◌<◌, ℕ, ◌^◌, List, ◌≤◌, decimal};
 ghost use Rattle.std.specs.Net.Addr.{ipv4_octets, ipv6_segments, IsIpv4Addr, IsIpv6Addr};
 ghost use Rattle.std.specs.Net.Grammar.{IsIpv4Text, IsIpv6Text};
 ghost use Rattle.std.specs.Net.Text.{ipv4_text, ipv6_text};
@@ -13,6 +13,9 @@ ghost use Rattle.dnw_zone_values.specs.Times.{IsDateText, IsTimeText};
 ghost use Rattle.dnw_zone_values.specs.Tags.{IsTag, IsTagText};
 ghost use Rattle.dnw_zone_values.specs.Base32.{IsHash, base32_text, IsHashText};
 ghost use Rattle.dnw_zone_values.specs.Pairs.{IsIdentifier, pairs_text, IsPairsText};
+ghost use Rattle.dnw_zone_values.specs.Prefixes.{PrefixesAreUnambiguous, PrefixesComeBack};
+ghost use Rattle.dnw_zone_values.specs.Locators.{locator_text, IsLocatorText};
+ghost use Rattle.dnw_zone_values.specs.Nsap.{nsap_text, IsNsapText};
 
 /// Numbers of up to six octets round-trip.
 pub fn numbers_come_back()
@@ -49,4 +52,16 @@ pub fn identifiers_come_back()
     ensures tags { ComesBack IsTag (λ tag. tag) IsTagText }
     ensures hashes { ComesBack IsHash base32_text IsHashText }
     ensures pairs { ComesBack IsIdentifier pairs_text IsPairsText }
+{}
+
+/// Address prefixes that have a text round-trip, and a text is one prefix at most.
+pub fn prefixes_come_back()
+    ensures back { PrefixesComeBack }
+    ensures one { PrefixesAreUnambiguous }
+{}
+
+/// Identifiers of nodes and locators round-trip, and addresses of NSAP.
+pub fn locators_come_back()
+    ensures locators { ComesBack (λ n. n < 2 ^ 64) locator_text IsLocatorText }
+    ensures nsap { ComesBack IsOctets nsap_text IsNsapText }
 {}

@@ -20,13 +20,14 @@ impl fmt::Display for Locator {
 
     fn fmt<W: fmt::Write>(&self, f: &mut fmt::Formatter<W>) -> fmt::Result {
         let number = self.0;
-        f.write(Group((number / 281474976710656) as u16))?;
-        f.write_str(":")?;
-        f.write(Group((number / 4294967296 % 65536) as u16))?;
-        f.write_str(":")?;
-        f.write(Group((number / 65536 % 65536) as u16))?;
-        f.write_str(":")?;
-        f.write(Group((number % 65536) as u16))
+        write!(
+            f,
+            "{}:{}:{}:{}",
+            Group((number / 281474976710656) as u16),
+            Group((number / 4294967296 % 65536) as u16),
+            Group((number / 65536 % 65536) as u16),
+            Group((number % 65536) as u16)
+        )
     }
 }
 

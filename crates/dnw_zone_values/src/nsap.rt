@@ -1,17 +1,15 @@
 //! Addresses of NSAP (RFC 1706, section 5).
-ghost use Rattle.std.specs.Prelude.{◌≡◌, Some, IfOk};
+ghost use Rattle.std.specs.Prelude.{◌≡◌, ◌<◌, Some, IfOk, slice_index};
 ghost use Rattle.std.specs.List.{filter};
-ghost use Rattle.hex.specs.Hex.{lower_digits};
+ghost use Rattle.hex.specs.Hex.{encode_lower, lower_digits};
 ghost use Rattle.dnw_zone_values.specs.Spelling.{Appends};
 ghost use Rattle.dnw_zone_values.specs.Nsap.{is_no_dot, nsap_text, IsNsapText};
 ghost use Rattle.dnw_zone_values.specs.declared.error.FieldTextError.TheVariants.{Nsap as NsapWanted};
 
 use crate::error::FieldTextError;
-use crate::octets::append_hexadecimal;
-use crate::pairs::lower_digit;
-use crate::string::write_ascii;
+use crate::octets::append_digits;
 use std::alloc::{AllocError, Global};
-use std::fmt;
+use std::{fmt, str};
 
 /// An address of NSAP, printed as `0x47000580005a00`.
 #[derive(Clone, Copy, Debug)]
@@ -21,11 +19,35 @@ impl fmt::Display for Nsap<'_> {
     ghost output = { λ octets. Some (nsap_text octets.0.now) };
 
     fn fmt<W: fmt::Write>(&self, f: &mut fmt::Formatter<W>) -> fmt::Result {
-        f.write_str("0x")?;
+        write!(f, "0x{}", LowerHexadecimal(self.0))
+    }
+}
+
+/// Octets that are printed in hexadecimal, in lower case.
+#[derive(Clone, Copy)]
+struct LowerHexadecimal<'a>(&'a [u8]);
+
+impl fmt::Display for LowerHexadecimal<'_> {
+    ghost output = { λ octets. Some (encode_lower octets.0.now) };
+
+    fn fmt<W: fmt::Write>(&self, f: &mut fmt::Formatter<W>) -> fmt::Result {
         for octet in self.0 {
-            write_ascii(f, &[lower_digit(*octet / 16), lower_digit(*octet % 16)])?;
+            let digits = [hex_digit(*octet / 16), hex_digit(*octet % 16)];
+            f.write_str(str::from_utf8(&digits).map_err(|_| fmt::Error)?)?;
         }
         Ok(())
+    }
+}
+
+/// Returns the digit of a number below 16, in lower case.
+fn hex_digit(number: u8) -> u8
+    requires { number < 16 }
+    ensures { result ≡ slice_index lower_digits number }
+{
+    if number < 10 {
+        b'0' + number
+    } else {
+        b'a' + (number - 10)
     }
 }
 
@@ -44,7 +66,7 @@ pub fn parse_nsap(alloc: Global, text: &[u8], octets: &mut Vec<u8>) -> Result<()
         return Err(FieldTextError::Nsap);
     };
     let joined = without_dots(alloc, digits)?;
-    append_hexadecimal(joined.as_slice(), FieldTextError::Nsap, octets)
+    append_digits(joined.as_slice(), FieldTextError::Nsap, octets)
 }
 
 /// Returns the characters of a text that are no dots.

@@ -67,7 +67,7 @@ impl fmt::Display for Salt<'_> {
 pub fn parse_hexadecimal(text: &str, octets: &mut Vec<u8>) -> Result<(), FieldTextError>
     ensures { Appends HexWanted IsHexText text.now octets.old.items octets.new.items result }
 {
-    append_hexadecimal(text.as_bytes(), FieldTextError::Hexadecimal, octets)
+    append_hexadecimal(text, FieldTextError::Hexadecimal, octets)
 }
 
 /// Appends the octets that a text writes in base 64 with its padding.
@@ -100,13 +100,24 @@ pub fn parse_salt(text: &str, octets: &mut Vec<u8>) -> Result<(), FieldTextError
         return Ok(());
     }
     match text.len() {
-        1..=510 => append_hexadecimal(text.as_bytes(), FieldTextError::Salt, octets),
+        1..=510 => append_hexadecimal(text, FieldTextError::Salt, octets),
         _ => Err(FieldTextError::Salt),
     }
 }
 
 /// Appends the octets that a text writes in hexadecimal. Fails with `wanted` if the text is something else.
-pub(crate) fn append_hexadecimal(
+fn append_hexadecimal(
+    text: &str,
+    wanted: FieldTextError,
+    octets: &mut Vec<u8>,
+) -> Result<(), FieldTextError>
+    ensures { Appends wanted IsHexText text.now octets.old.items octets.new.items result }
+{
+    append_digits(text.as_bytes(), wanted, octets)
+}
+
+/// Appends the octets that hexadecimal digits write. Fails with `wanted` if the characters are something else.
+pub(crate) fn append_digits(
     text: &[u8],
     wanted: FieldTextError,
     octets: &mut Vec<u8>,

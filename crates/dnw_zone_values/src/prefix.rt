@@ -1,9 +1,9 @@
 //! Address prefixes (RFC 3123, sections 4 and 5).
-ghost use Rattle.std.specs.Prelude.{◌≡◌, ◌≤◌, ◌+◌, ◌++◌, ℕ, List, Bool, IfOk, OnErr, length, string_bytes};
+ghost use Rattle.std.specs.Prelude.{◌≡◌, ◌≤◌, ◌==◌, ◌++◌, true, drop, IfOk, OnErr, length, string_bytes};
 ghost use Rattle.std.specs.List.{position_or_len};
 ghost use Rattle.std.specs.Net.Addr.{ipv4_octets, ipv6_segments, octets_of, segments_of};
 ghost use Rattle.dnw_zone_values.specs.Spelling.{Appends};
-ghost use Rattle.dnw_zone_values.specs.Prefixes.{after, after_negation, before, is_negation, is_shown, longest_prefix, negation_text, negates, padded, prefix_text, prefix_wire, without_zeros, ends_well, IsPrefixOf, IsPrefixText};
+ghost use Rattle.dnw_zone_values.specs.Prefixes.{after, after_negation, before, is_negation, is_shown, address_size, address_text, family_of, negation_text, negates, padded, prefix_text, prefix_wire, without_zeros, ends_well, shown_text, IsFamilyText, IsPrefixOf, IsPrefixText};
 ghost use Rattle.dnw_zone_values.specs.Inside.Steps.{PushesOne, WritesValue};
 ghost use Rattle.dnw_zone_values.specs.Inside.Takes.{KeepsFront};
 ghost use Rattle.dnw_zone_values.specs.declared.error.FieldTextError.TheVariants.{Prefix as PrefixWanted};
@@ -62,13 +62,40 @@ fn push_prefix(text: &[u8], octets: &mut Vec<u8>) -> Result<bool, AllocError>
         return Ok(false);
     }
     let (negates, rest) = split_negation(text);
-    let (number, rest) = split_first(rest, b':');
+    push_family(negates, rest, octets)
+}
+
+/// Appends the octets of a prefix after `!`, or without it. Returns `false` if the text is none.
+fn push_family(negates: bool, text: &[u8], octets: &mut Vec<u8>) -> Result<bool, AllocError>
+    ensures ok { IfOk result (PushesOne (IsFamilyText negates text.now) octets.old.items octets.new.items) }
+    ensures front { KeepsFront octets.old.items octets.new.items }
+{
+    let (number, rest) = split_first(text, b':');
     let (address, size) = split_first(rest, b'/');
-    match number_up_to(number, 65535) {
-        Some(1) => push_ipv4(negates, address, size, octets),
-        Some(2) => push_ipv6(negates, address, size, octets),
-        _ => Ok(false),
+    let Some(family) = number_up_to(number, 65535) else {
+        return Ok(false);
+    };
+    push_of(family, negates, address, size, octets)
+}
+
+/// Appends the octets of a prefix of a family. Returns `false` if it is none.
+fn push_of(
+    family: u64,
+    negates: bool,
+    address: &[u8],
+    size: &[u8],
+    octets: &mut Vec<u8>,
+) -> Result<bool, AllocError>
+    ensures ok { IfOk result (PushesOne (IsPrefixOf family negates address.now size.now) octets.old.items octets.new.items) }
+    ensures front { KeepsFront octets.old.items octets.new.items }
+{
+    if family == 1 {
+        return push_ipv4(negates, address, size, octets);
     }
+    if family == 2 {
+        return push_ipv6(negates, address, size, octets);
+    }
+    Ok(false)
 }
 
 /// Returns `true` if a text begins with `!`, and what is after that.
@@ -202,17 +229,58 @@ pub fn write_prefix(octets: &[u8], out: &mut String) -> Result<bool, AllocError>
     if !is_shown(octets) {
         return Ok(false);
     }
-    if negates(octets) {
+    push_shown(octets, out)?;
+    Ok(true)
+}
+
+/// Appends the text of a prefix.
+fn push_shown(octets: &[u8], out: &mut String) -> Result<(), AllocError>
+    requires { is_shown octets.now ≡ true }
+    ensures { IfOk result (λ _. string_bytes out.new ≡ string_bytes out.old ++ shown_text octets.now) }
+{
+    push_negation(negates(octets), out)?;
+    push_address(family_of(octets), address_of(octets), out)?;
+    write!(out, "/{}", octets[2])?;
+    Ok(())
+}
+
+/// Returns the octets of the address of a prefix.
+fn address_of(octets: &[u8]) -> &[u8]
+    requires { 4 ≤ length octets.now }
+    ensures { result.now ≡ drop 4 octets.now }
+{
+    &octets[HEAD..]
+}
+
+/// Returns the number of the family of a prefix.
+fn family_of(octets: &[u8]) -> u16
+    requires { 4 ≤ length octets.now }
+    ensures { result ≡ family_of octets.now }
+{
+    u16::from_be_bytes([octets[0], octets[1]])
+}
+
+/// Appends `!` for a prefix that negates.
+fn push_negation(negates: bool, out: &mut String) -> Result<(), AllocError>
+    ensures { IfOk result (λ _. string_bytes out.new ≡ string_bytes out.old ++ negation_text negates) }
+{
+    if negates {
         out.push('!')?;
     }
-    let own = &octets[HEAD..];
-    let bits = octets[2];
-    if octets[1] == IPV4 {
-        write!(out, "1:{}/{bits}", ipv4_of(own))?;
+    Ok(())
+}
+
+/// Appends the number of a family, and an address of these octets and zeros after them.
+fn push_address(family: u16, own: &[u8], out: &mut String) -> Result<(), AllocError>
+    requires { length own.now ≤ address_size family }
+    ensures { IfOk result (λ _. string_bytes out.new ≡ string_bytes out.old ++ address_text family own.now) }
+{
+    if family == 1 {
+        write!(out, "1:{}", ipv4_of(own))?;
     } else {
-        write!(out, "2:{}/{bits}", ipv6_of(own))?;
+        write!(out, "2:{}", ipv6_of(own))?;
     }
-    Ok(true)
+    Ok(())
 }
 
 /// Returns `true` if octets are a prefix of IPv4 or IPv6.
@@ -267,7 +335,15 @@ fn ipv6_of(own: &[u8]) -> Ipv6Addr
     requires { length own.now ≤ 16 }
     ensures { ipv6_segments result ≡ segments_of (padded 16 own.now) }
 {
+    Ipv6Addr::from(padded(own))
+}
+
+/// Returns octets and zeros after them.
+fn padded(own: &[u8]) -> [u8; 16]
+    requires { length own.now ≤ 16 }
+    ensures { result ≡ padded 16 own.now }
+{
     let mut octets = [0u8; 16];
     octets[..own.len()].copy_from_slice(own);
-    Ipv6Addr::from(octets)
+    octets
 }

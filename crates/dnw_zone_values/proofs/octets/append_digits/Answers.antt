@@ -2,7 +2,7 @@ use Rattle.std.proofs.Common.{◌≡◌, ℕ, ◌+◌, ◌-◌, ◌≤◌, List,
 use Rattle.std.proofs.lemmas.List.{length-take}
 use Rattle.base64.proofs.Encoding.{resized_front}
 use Rattle.dnw_zone_values.proofs.HexText.{tail_written, sized_ok}
-use Rattle.dnw_zone_values.proofs.octets.append_hexadecimal.Goals as goal
+use Rattle.dnw_zone_values.proofs.octets.append_digits.Goals as goal
 
 pub returns : goal.returns
 returns c =
