@@ -1,5 +1,8 @@
 pub mod Empty
 pub mod TypeSteps
+pub mod PrefixSteps
+pub mod PrefixListsBack
+pub mod LocatorsBack
 pub mod ParamWalks
 pub mod Whole
 pub mod CodesWithin

@@ -7,3 +7,4 @@ pub mod StringWords
 pub mod NameWords
 pub mod Wires
 pub mod WordParts
+pub mod PrefixWords

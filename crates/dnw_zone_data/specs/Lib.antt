@@ -4,7 +4,7 @@ pub mod NameReading
 pub mod Appending
 pub mod TypeLists
 pub mod PrefixLists
-pub mod Identifiers
+pub mod Locators
 pub mod ParamLists
 pub mod Locations
 pub mod Faults

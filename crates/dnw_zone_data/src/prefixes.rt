@@ -1,6 +1,6 @@
 //! Lists of address prefixes (RFC 3123, section 5).
-ghost use Rattle.std.specs.Prelude.{◌≡◌, ◌++◌, ℕ, List, IfOk, string_bytes};
-ghost use Rattle.dnw_zone_data.specs.PrefixLists.{ArePrefixes, PrintsPrefixes};
+ghost use Rattle.std.specs.Prelude.{◌≡◌, IfOk, string_bytes};
+ghost use Rattle.dnw_zone_data.specs.PrefixLists.{prefix_size, ArePrefixes, PrintsPrefixes};
 ghost use Rattle.dnw_zone_data.specs.Appending.{Appended, AppendedInPart, AppendsOne};
 ghost use Rattle.dnw_zone_values.specs.Inside.Steps.{PushesOne};
 ghost use Rattle.dnw_zone_values.specs.Prefixes.{IsPrefixText};
@@ -12,6 +12,9 @@ use std::alloc::AllocError;
 
 /// The number of octets of a prefix before those of its address.
 const HEAD: usize = 4;
+
+/// The bit that negates a prefix, beside the number of octets of its address.
+const NEGATION: u8 = 128;
 
 /// Appends the octets of the prefixes that all words are. Returns `false` if one is none.
 pub(crate) fn parse_prefixes(text: &[u8], out: &mut Vec<u8>) -> Result<bool, AllocError>
@@ -34,8 +37,8 @@ fn push_prefix(word: &[u8], out: &mut Vec<u8>) -> Result<bool, AllocError>
 {
     match parse_prefix(word, out) {
         Ok(()) => Ok(true),
-        Err(FieldTextError::Memory) => Err(AllocError),
-        Err(_) => Ok(false),
+        Err(FieldTextError::Prefix) => Ok(false),
+        Err(_) => Err(AllocError),
     }
 }
 
@@ -57,16 +60,25 @@ fn push_prefixes(octets: &[u8], out: &mut String) -> Result<bool, AllocError>
     ensures { IfOk result (AppendedInPart (PrintsPrefixes octets.now) (string_bytes out.old) (string_bytes out.new)) }
 {
     let mut left = octets;
-    while let [_, _, _, count, ..] = left {
-        let size = HEAD + usize::from(*count % 128);
-        let Some((own, after)) = left.split_at_checked(size) else {
+    'prefixes: while !left.is_empty() {
+        let Some((own, after)) = left.split_at_checked(prefix_size(left)) else {
             return Ok(false);
         };
-        out.push(' ')?;
+        out.push_str(" ")?;
         if !write_prefix(own, out)? {
             return Ok(false);
         }
         left = after;
     }
-    Ok(left.is_empty())
+    Ok(true)
+}
+
+/// Returns the number of octets of the first prefix.
+fn prefix_size(octets: &[u8]) -> usize
+    ensures { result ≡ prefix_size octets.now }
+{
+    match octets {
+        [_, _, _, count, ..] => HEAD + usize::from(*count % NEGATION),
+        _ => HEAD,
+    }
 }

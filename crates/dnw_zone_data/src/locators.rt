@@ -1,18 +1,18 @@
 //! Words that are identifiers of nodes, locators, numbers of nodes and addresses of NSAP.
 ghost use Rattle.std.specs.Prelude.{◌≡◌, ◌++◌, ◌∷◌, IfOk, string_bytes};
 ghost use Rattle.dnw_zone_data.specs.Appending.{AppendsOne};
-ghost use Rattle.dnw_zone_data.specs.Identifiers.{IsLocatorField, IsNodeNumber, IsNsapField};
+ghost use Rattle.dnw_zone_data.specs.Locators.{IsLocatorField, IsNodeNumber, IsNsapField};
 
 use dnw_zone_values::error::FieldTextError;
 use dnw_zone_values::number::parse_up_to;
 use dnw_zone_values::{locator, nsap};
 use std::alloc::{AllocError, Global};
 
-/// Appends the octets of an identifier of a node, or of a locator. Returns `false` if the word is none.
-pub(crate) fn parse_locator(word: &[u8], out: &mut Vec<u8>) -> Result<bool, AllocError>
-    ensures { IfOk result (AppendsOne (IsLocatorField word.now) out.old.items out.new.items) }
+/// Appends the octets of an identifier of a node, or of a locator. Returns `false` if the text is none.
+pub(crate) fn parse_locator(text: &str, out: &mut Vec<u8>) -> Result<bool, AllocError>
+    ensures { IfOk result (AppendsOne (IsLocatorField text.now) out.old.items out.new.items) }
 {
-    let Ok(number) = locator::parse_locator(word) else {
+    let Ok(number) = locator::parse_locator(text.as_bytes()) else {
         return Ok(false);
     };
     out.extend_from_slice(&number.to_be_bytes())?;

@@ -11,7 +11,7 @@ max_u64 = 18446744073709551615
 
 -- a word is an identifier of a node, or a locator (RFC 6742, sections 2.1.2 and 2.3.2)
 abbrev pub IsLocatorField : List ℕ → FieldValue → Type 0
-IsLocatorField text value = (n : ℕ) × IsLocatorText text n × (value ≡ u64 n)
+IsLocatorField text value = (n : ℕ) × IsUtf8 text × IsLocatorText text n × (value ≡ u64 n)
 
 abbrev pub PrintsLocator : ℕ → List ℕ → Type 0
 PrintsLocator n text = text ≡ 32 ∷ locator_text n
