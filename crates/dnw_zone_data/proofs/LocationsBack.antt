@@ -71,8 +71,7 @@ angle_marks axis n is =
     let few = leb-true (arc n) (max_degrees axis * degree) is in
     let max = few_degrees axis in
     let s = arc n % minute in
-    let one : all_plain (letter axis n ∷ []) ≡ true = rw (letter_plain axis n) refl in
-    (
+    let one : all_plain (letter axis n ∷ []) ≡ true = rw (letter_plain axis n) refl in (
       decimal_nonempty (arc n / degree) (omega (arith, few, max)),
       decimal_plain (arc n / degree) (omega (arith, few, max)),
       (
@@ -122,6 +121,15 @@ location_marks l is small =
 
 -- ---- locations
 
+few_degrees_north : (l : Location) → is_location l ≡ true → arc l.latitude ≤ max_degrees Latitude * degree
+few_degrees_north l is =
+    let a = is_angle Latitude l.latitude in
+    let b = is_angle Longitude l.longitude in
+    let vertical = and_parts (a && b && is_precision l.size && is_precision l.horizontal) (is_precision l.vertical) is in
+    let horizontal = and_parts (a && b && is_precision l.size) (is_precision l.horizontal) vertical.0 in
+    let size = and_parts (a && b) (is_precision l.size) horizontal.0 in
+    leb-true (arc l.latitude) (max_degrees Latitude * degree) (and_parts a b size.0).0
+
 no_mark : (n : ℕ) → n < 2 ^ 64 → decimal n ≢ generic_mark
 no_mark n h e = omega (arith, (first_is n h []).1, ap (λ (xs : List ℕ). slice_index (xs ++ []) 0) e)
 
@@ -140,6 +148,6 @@ location_back own text octets print =
         are,
         ap (λ (xs : List ℕ). shaped (record { shape = shapes.Location; octets = xs })) (sym wire),
       ),
-      (λ e. no_mark (arc l.latitude / degree) (omega arith) (sym first ∙ e)),
+      (λ e. no_mark (arc l.latitude / degree) (omega (arith, few_degrees_north l print.1)) (sym first ∙ e)),
       refl,
     )
