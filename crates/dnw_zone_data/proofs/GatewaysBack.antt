@@ -32,6 +32,7 @@ use Rattle.dnw_zone_data.specs.Generic.{generic_mark}
 use Rattle.dnw_zone_data.specs.Parsing.{AreThree, ReadsField, extent_of}
 use Rattle.dnw_zone_data.specs.DataTextLaws.{FieldComesBack, IsFieldReadBack}
 use Rattle.dnw_zone_data.proofs.FieldsBack.{dotted, octets_parts, plain_other}
+use Rattle.dnw_zone_data.proofs.LocationsBack.{location_back}
 use Rattle.dnw_zone_data.proofs.NamesBack.{name_is, name_len, name_starts}
 use Rattle.dnw_zone_data.proofs.Plain.{all_plain, decimal_plain, hex_plain, plain_after, plain_starts, plain_utf8, plain_word}
 use Rattle.dnw_zone_data.proofs.WordsBack.{ipv6_some}
@@ -202,8 +203,14 @@ identity_back own h origin way printed rest (algorithm, tag, key, are, e, p) end
       ap (of_shape HostIdentity) e,
     )
 
+location_field : (own : List ℕ) → IsOctets own → FieldComesBack (kinds.Shaped Location) (of_shape Location own)
+location_field own h origin way printed rest print end =
+    let none : rest ≡ [] = end.0 refl in
+    let is = location_back own printed h print in
+    rw (none, append-nil) ((is.0, refl), is.1, is.2)
+
 pub shaped_back : (shape : Shape) (own : List ℕ) → IsOctets own → FieldComesBack (kinds.Shaped shape) (of_shape shape own)
-shaped_back Location own h origin way printed rest print end = absurd print
+shaped_back Location own h origin way printed rest print end = location_field own h origin way printed rest print end
 shaped_back Gateway own h origin way printed rest print end = gateway_back own h origin way printed rest print end
 shaped_back Relay own h origin way printed rest print end = relay_back own h origin way printed rest print end
 shaped_back HostIdentity own h origin way printed rest print end = identity_back own h origin way printed rest print end

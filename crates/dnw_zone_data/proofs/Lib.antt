@@ -21,6 +21,8 @@ pub mod FieldsBack
 pub mod NumberFormsBack
 pub mod NamesBack
 pub mod WordsBack
+pub mod LocationWords
+pub mod LocationsBack
 pub mod GatewaysBack
 pub mod NameListsBack
 pub mod Items
@@ -36,5 +38,3 @@ pub mod Pushed
 pub mod NamesRead
 pub mod WordParts
 mod Marks
-pub mod LocationWords
-pub mod LocationsBack

@@ -20,7 +20,7 @@ use Rattle.dnw_zone_data.proofs.Plain.{all_plain, decimal_plain, is_plain, plain
 
 -- ---- words that are printed
 
-abbrev AreMarks : List (List ℕ) → Type 0
+abbrev pub AreMarks : List (List ℕ) → Type 0
 AreMarks [] = Unit {0}
 AreMarks (w ∷ words) = (0 < length w) × (all_plain w ≡ true) × AreMarks words
 
@@ -132,6 +132,11 @@ few_degrees_north l is =
 
 no_mark : (n : ℕ) → n < 2 ^ 64 → decimal n ≢ generic_mark
 no_mark n h e = omega (arith, (first_is n h []).1, ap (λ (xs : List ℕ). slice_index (xs ++ []) 0) e)
+
+-- what is printed are plain words, each after a space
+pub location_spaced : (own text : List ℕ) → IsOctets own → PrintsLocation own text → (words : List (List ℕ)) × AreMarks words × (text ≡ spaced words)
+location_spaced own text octets print =
+    let l = location_at own in (location_words l, location_marks l print.1 (wire_back own octets print.0).1, print.2)
 
 pub location_back : (own text : List ℕ) → IsOctets own → PrintsLocation own text
     → AreLocation (after_spaces text) (shaped (record { shape = shapes.Location; octets = own })) × (word (after_spaces text) ≢ generic_mark) × (is_end text ≡ true)

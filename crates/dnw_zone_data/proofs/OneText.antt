@@ -15,7 +15,7 @@ use Rattle.dnw_data.specs.declared.kind.Kind.{Kind}
 use Rattle.dnw_data.specs.declared.kind.Kind.TheVariants as kinds
 use Rattle.dnw_data.specs.declared.kind.ListKind.TheVariants as lists
 use Rattle.dnw_data.specs.declared.kind.Shape.{Shape}
-use Rattle.dnw_data.specs.declared.kind.Shape.TheVariants.{Gateway, Relay, HostIdentity}
+use Rattle.dnw_data.specs.declared.kind.Shape.TheVariants.{Location, Gateway, Relay, HostIdentity}
 use Rattle.dnw_data.specs.declared.kind.Shown.{Shown}
 use Rattle.dnw_data.specs.declared.kind.Shown.TheVariants.{Text, Tag, Hex, Base32Hex, Base64, Other}
 use Rattle.dnw_data.specs.Table.{fields_of}
@@ -26,6 +26,7 @@ use Rattle.dnw_zone_values.specs.Strings.{IsTextWithin}
 use Rattle.dnw_zone_values.specs.Times.{IsDateText, IsTimeText}
 use Rattle.dnw_zone_values.proofs.ComeBack.{base64}
 use Rattle.dnw_zone_values.specs.Params.{ParamValue, in_key_order, params_wire}
+use Rattle.dnw_zone_data.proofs.LocationWords.{one_location}
 use Rattle.dnw_zone_data.proofs.ParamWalks.{one_params}
 use Rattle.dnw_data.specs.FieldWires.{field_wire}
 use Rattle.dnw_zone_data.specs.declared.extent.Extent.{Extent}
@@ -33,7 +34,7 @@ use Rattle.dnw_zone_data.specs.declared.extent.Extent.TheVariants.{One, Three, A
 use Rattle.dnw_zone_data.specs.declared.number_form.NumberForm.{NumberForm}
 use Rattle.dnw_zone_data.specs.declared.number_form.NumberForm.TheVariants.{Decimal, Period, Algorithm, CertificateType, Scheme}
 use Rattle.dnw_zone_data.specs.NumberForms.{first_form, number_forms, other_forms, IsNumberIn}
-use Rattle.dnw_zone_data.specs.Gateways.{IsEnd, IsGateway, IsIdentity, IsRelay, IsShape, identity_wire, of_shape, relay_flag}
+use Rattle.dnw_zone_data.specs.Gateways.{AreShape, IsEnd, IsGateway, IsIdentity, IsRelay, IsShape, identity_wire, of_shape, relay_flag}
 use Rattle.dnw_zone_data.specs.NameLists.{AreNameWords}
 use Rattle.dnw_zone_data.specs.TypeLists.{AreTypeWords}
 use Rattle.dnw_zone_data.specs.Words.{after_spaces, after_word, next_word, without_spaces, word}
@@ -148,6 +149,10 @@ one_names origin left (s ∷ a) (t ∷ b) x y =
 types_fit : (v : FieldValue) (own : List ℕ) → v ≡ types (items lists.Types own) → IsOctets (field_wire v) → IsOctets own
 types_fit v own e h = subst (λ (z : FieldValue). IsOctets (field_wire z)) e h
 
+one_whole : (shape : Shape) (left : List ℕ) (v w : FieldValue) → AreShape shape left v → AreShape shape left w → v ≡ w
+one_whole Location left v w x y = one_location left v w x y
+one_whole shape left v w x y = absurd x
+
 one_list : (origin : Option NameValue) (kind : Kind) (left : List ℕ) (v w : FieldValue) → IsOctets (field_wire v) → IsOctets (field_wire w) → AreAll origin kind left v → AreAll origin kind left w → v ≡ w
 one_list origin (kinds.Octets Hex) left v w hv hw x y = x.2 ∙ ap octets (one_hex (without_spaces left) x.0 y.0 x.1.1 y.1.1) ∙ sym y.2
 one_list origin (kinds.Octets Base64) left v w hv hw x y = x.2 ∙ ap octets (one_base64 (without_spaces left) x.0 y.0 x.1.1 y.1.1) ∙ sym y.2
@@ -163,6 +168,7 @@ one_list origin (kinds.List lists.Params) left v w hv hw (a, own, words, is, kee
     e ∙ ap (λ (ps : List ParamValue). params (items lists.Params (params_wire ps))) same ∙ sym f
 one_list origin (kinds.List lists.Names) left v w hv hw (a, words, e) (b, others, f) =
     e ∙ ap (λ (listed : List (List (List ℕ))). names (items lists.Names (flat_map wire listed))) (one_names origin left a b words others) ∙ sym f
+one_list origin (kinds.Shaped shape) left v w hv hw x y = one_whole shape left v w x y
 one_list origin kind left v w hv hw x y = absurd x
 
 -- ---- three words

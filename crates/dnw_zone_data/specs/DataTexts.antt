@@ -9,7 +9,7 @@ use Rattle.dnw_data.specs.declared.kind.Kind.{Kind}
 use Rattle.dnw_data.specs.declared.kind.Kind.TheVariants.{LongTime, Locator, ChaosAddress, LongCounted, Shaped, Octets}
 use Rattle.dnw_data.specs.declared.kind.Kind.TheVariants as kinds
 use Rattle.dnw_data.specs.declared.kind.ListKind.TheVariants.{Prefixes}
-use Rattle.dnw_data.specs.declared.kind.Shape.TheVariants.{Location, AddressSuffix}
+use Rattle.dnw_data.specs.declared.kind.Shape.TheVariants.{AddressSuffix}
 use Rattle.dnw_data.specs.declared.kind.Shown.TheVariants.{Hex, Other}
 use Rattle.std.specs.List.{list_all, list_any}
 use Rattle.dnw_data.specs.Values.{FieldValue}
@@ -34,7 +34,6 @@ has_field_text LongTime = false
 has_field_text Locator = false
 has_field_text ChaosAddress = false
 has_field_text (LongCounted shown) = false
-has_field_text (Shaped Location) = false
 has_field_text (Shaped AddressSuffix) = false
 has_field_text (Octets Other) = false
 has_field_text (kinds.List Prefixes) = false

@@ -3,7 +3,7 @@ use Rattle.std.specs.Prelude.{ℕ}
 use Rattle.dnw_data.specs.declared.kind.Kind.{Kind}
 use Rattle.dnw_data.specs.declared.kind.Kind.TheVariants as kinds
 use Rattle.dnw_data.specs.declared.kind.ListKind.TheVariants as lists
-use Rattle.dnw_data.specs.declared.kind.Shape.TheVariants.{Gateway, Relay, HostIdentity}
+use Rattle.dnw_data.specs.declared.kind.Shape.TheVariants.{Location, Gateway, Relay, HostIdentity}
 use Rattle.dnw_data.specs.declared.kind.Shown.{Shown}
 use Rattle.dnw_data.specs.declared.kind.Shown.TheVariants as shown
 use Rattle.dnw_zone_data.specs.declared.error.DataTextError.{DataTextError}
@@ -49,6 +49,7 @@ wanted_of way (kinds.List lists.Texts) = wanted.Strings
 wanted_of way (kinds.List lists.Types) = wanted.Types
 wanted_of way (kinds.List lists.Params) = wanted.Params
 wanted_of way (kinds.List lists.Names) = wanted.Names
+wanted_of way (kinds.Shaped Location) = wanted.Location
 wanted_of way (kinds.Shaped Gateway) = wanted.Gateway
 wanted_of way (kinds.Shaped Relay) = wanted.Relay
 wanted_of way (kinds.Shaped HostIdentity) = wanted.HostIdentity

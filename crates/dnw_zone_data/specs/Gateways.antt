@@ -11,11 +11,13 @@ use Rattle.std.specs.declared.net.Ipv6Addr.{Ipv6Addr}
 use Rattle.dnw_base.specs.Limits.{max_data}
 use Rattle.dnw_base.specs.Names.{AreLabels, NameValue, wire}
 use Rattle.dnw_data.specs.declared.kind.Shape.{Shape}
-use Rattle.dnw_data.specs.declared.kind.Shape.TheVariants.{Gateway, Relay, HostIdentity}
+use Rattle.dnw_data.specs.declared.kind.Shape.TheVariants.{Location, Gateway, Relay, HostIdentity}
 use Rattle.dnw_data.specs.Values.{FieldValue, shaped}
+use Rattle.dnw_zone_values.specs.Locations.{PrintsLocation}
 use Rattle.dnw_zone_values.specs.Numbers.{max_u8, IsNumberText}
 use Rattle.dnw_zone_values.specs.Octets.{base64_text, hex_text, IsBase64Text, IsHexText}
 use Rattle.dnw_name_text.specs.NameTexts.{full_name_text}
+use Rattle.dnw_zone_data.specs.Locations.{AreLocation}
 use Rattle.dnw_zone_data.specs.NameReading.{named_at}
 
 -- ---- the octets
@@ -71,6 +73,7 @@ abbrev pub PrintsShaped : Shape → List ℕ → List ℕ → Type 0
 PrintsShaped Gateway own text = PrintsGateway own text
 PrintsShaped Relay own text = PrintsRelay own text
 PrintsShaped HostIdentity own text = PrintsIdentity own text
+PrintsShaped Location own text = PrintsLocation own text
 PrintsShaped shape own text = ⊥
 
 -- ---- parsing
@@ -101,7 +104,12 @@ IsIdentity first second third value =
     (algorithm : ℕ) × (tag : List ℕ) × (key : List ℕ) × IsNumberText max_u8 first algorithm × IsUtf8 second × IsHexText second tag × IsUtf8 third × IsBase64Text third key
     × AreTagAndKey tag key × (value ≡ of_shape HostIdentity (identity_wire algorithm tag key))
 
--- words are a field of a shape
+-- all words are a field of a shape
+abbrev pub AreShape : Shape → List ℕ → FieldValue → Type 0
+AreShape Location left value = AreLocation left value
+AreShape shape left value = ⊥
+
+-- three words are
 abbrev pub IsShape : Option NameValue → Shape → List ℕ → List ℕ → List ℕ → FieldValue → Type 0
 IsShape origin Gateway first second third value = IsGateway origin first second third value
 IsShape origin Relay first second third value = IsRelay origin first second third value

@@ -6,9 +6,9 @@ pub mod TypeLists
 pub mod PrefixLists
 pub mod Locators
 pub mod ParamLists
-pub mod Locations
 pub mod Faults
 pub mod Generic
+pub mod Locations
 pub mod Gateways
 pub mod NameLists
 pub mod Printing

@@ -31,7 +31,7 @@ use Rattle.dnw_zone_data.specs.NumberForms.{first_form, other_forms, IsNumberIn}
 use Rattle.dnw_zone_data.specs.Words.{after_spaces, word, after_word, next_word, without_spaces}
 use Rattle.dnw_zone_data.specs.Faults.{fault, wanted_of}
 use Rattle.dnw_zone_data.specs.NameReading.{named_at}
-use Rattle.dnw_zone_data.specs.Gateways.{IsShape}
+use Rattle.dnw_zone_data.specs.Gateways.{AreShape, IsShape}
 use Rattle.dnw_zone_data.specs.NameLists.{AreNames}
 use Rattle.dnw_zone_data.specs.TypeLists.{AreTypes, IsTypeField}
 use Rattle.dnw_zone_data.specs.ParamLists.{AreParams}
@@ -129,6 +129,7 @@ AreList origin kind left value = ⊥
 abbrev pub AreAll : Option NameValue → Kind → List ℕ → FieldValue → Type 0
 AreAll origin (kinds.Octets shown) left value = (own : List ℕ) × AllSpell shown left own × (value ≡ octets own)
 AreAll origin (kinds.List list) left value = AreList origin list left value
+AreAll origin (kinds.Shaped shape) left value = AreShape shape left value
 AreAll origin kind left value = ⊥
 
 -- three words are a field of this kind

@@ -357,7 +357,7 @@ fn has_field_text(kind: Kind) -> bool
             | Kind::Locator
             | Kind::ChaosAddress
             | Kind::LongCounted(_)
-            | Kind::Shaped(Shape::Location | Shape::AddressSuffix)
+            | Kind::Shaped(Shape::AddressSuffix)
             | Kind::Octets(Shown::Other)
             | Kind::List(ListKind::Prefixes)
     )

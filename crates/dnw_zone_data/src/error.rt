@@ -85,6 +85,9 @@ pub enum Wanted {
     /// Names up to the end.
     #[error("names")]
     Names,
+    /// A location: `52 22 23.000 N 4 53 32.000 E -2.00m`.
+    #[error("a location: latitude, longitude and altitude")]
+    Location,
     /// The type of a gateway, an algorithm, and the gateway.
     #[error("the type of a gateway (0 to 3), an algorithm, and `.`, an address or a name")]
     Gateway,
@@ -164,6 +167,7 @@ pub(crate) fn wanted_of(form: NumberForm, kind: Kind) -> Wanted
         Kind::List(ListKind::Types) => Wanted::Types,
         Kind::List(ListKind::Params) => Wanted::Params,
         Kind::List(ListKind::Names) => Wanted::Names,
+        Kind::Shaped(Shape::Location) => Wanted::Location,
         Kind::Shaped(Shape::Gateway) => Wanted::Gateway,
         Kind::Shaped(Shape::Relay) => Wanted::Relay,
         Kind::Shaped(Shape::HostIdentity) => Wanted::HostIdentity,

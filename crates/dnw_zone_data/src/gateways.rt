@@ -12,9 +12,10 @@ ghost use Rattle.dnw_name_text.specs.NameTexts.{full_name_text};
 ghost use Rattle.dnw_zone_values.specs.Inside.Steps.{PushesOne};
 ghost use Rattle.dnw_zone_values.specs.Numbers.{max_u8, IsNumberText};
 ghost use Rattle.dnw_zone_data.specs.Appending.{Appended, AppendsOne};
-ghost use Rattle.dnw_zone_data.specs.Gateways.{identity_wire, AreTagAndKey, IsEnd, IsGateway, IsIdentity, IsRelay, IsShape, PrintsEnd, PrintsGateway, PrintsIdentity, PrintsRelay, PrintsShaped};
+ghost use Rattle.dnw_zone_data.specs.Gateways.{identity_wire, AreShape, AreTagAndKey, IsEnd, IsGateway, IsIdentity, IsRelay, IsShape, PrintsEnd, PrintsGateway, PrintsIdentity, PrintsRelay, PrintsShaped};
 ghost use Rattle.dnw_zone_data.specs.Parsing.{SpellsOctets};
 
+use crate::location::{parse_location, write_location};
 use crate::name::{append_name, write_name};
 use crate::name_lists::first_name;
 use crate::spelling::push_octets;
@@ -51,6 +52,16 @@ pub(crate) fn parse_shape(
         Shape::Relay => parse_relay(alloc, first, second, third, origin, out),
         Shape::HostIdentity => parse_identity(alloc, first, second, third, out),
         Shape::Location | Shape::AddressSuffix => Ok(false),
+    }
+}
+
+/// Appends the octets of the field of a shape that all words are. Returns `false` if they are none.
+pub(crate) fn parse_whole(shape: Shape, left: &[u8], out: &mut Vec<u8>) -> Result<bool, AllocError>
+    ensures { IfOk result (AppendsOne (AreShape shape left.now) out.old.items out.new.items) }
+{
+    match shape {
+        Shape::Location => parse_location(left, out),
+        _ => Ok(false),
     }
 }
 
@@ -220,7 +231,8 @@ pub(crate) fn write_shaped(
         Shape::Gateway => write_gateway(alloc, octets, out),
         Shape::Relay => write_relay(alloc, octets, out),
         Shape::HostIdentity => write_identity(octets, out),
-        Shape::Location | Shape::AddressSuffix => Ok(false),
+        Shape::Location => write_location(octets, out),
+        Shape::AddressSuffix => Ok(false),
     }
 }
 

@@ -11,7 +11,7 @@ ghost use Rattle.dnw_zone_data.specs.Appending.{AppendsOne};
 
 use crate::error::{DataTextError, Wanted, wanted_of};
 use crate::extent::{Extent, extent_of};
-use crate::gateways::parse_shape;
+use crate::gateways::{parse_shape, parse_whole};
 use crate::name::append_name;
 use crate::name_lists::parse_names;
 use crate::number_form::{NumberForm, next_form, u8_in, u16_in, u32_in};
@@ -171,6 +171,7 @@ fn parse_all<'t>(
 {
     match kind {
         Kind::Octets(shown) => Ok(ended(parse_joined(alloc, shown, left, out)?)),
+        Kind::Shaped(shape) => Ok(ended(parse_whole(shape, left, out)?)),
         Kind::List(list) => Ok(ended(parse_list(alloc, list, left, origin, out)?)),
         _ => Ok(None),
     }
