@@ -1,6 +1,6 @@
 -- Octets that are put at an offset, and what is there then.
-use Rattle.std.proofs.Common.{◌≡◌, ◌≤◌, ℕ, ◌+◌, List, ◌++◌, length, take, drop, sym, ap, ◌∙◌, append_assoc, arith, length-append, length-drop}
-use Rattle.std.proofs.lemmas.List.{drop-drop, drop_at, length-take-le, take_at}
+use Rattle.std.proofs.Common.{◌≡◌, ◌≤◌, ℕ, ◌+◌, List, [], ◌++◌, length, take, drop, subst, sym, ap, ◌∙◌, append_assoc, arith, length-append, length-drop}
+use Rattle.std.proofs.lemmas.List.{drop-drop, drop_at, length-take-le, nil_from_length, take-append-drop, take_at}
 use borrow.Rule.Slice.PartMut.{put_mid}
 use Rattle.dnw_message_writer.specs.CompressedNames.{put_at}
 
@@ -26,3 +26,10 @@ length_put_at m p a fits =
 -- octets that are written over a part of the buffer are put there
 pub is_mid : (m : List ℕ) (p : ℕ) (a : List ℕ) → put_at m p a ≡ put_mid p (length a) m a
 is_mid m p a = ap (λ r. take p m ++ (a ++ r)) (sym (drop-drop (length a) p m))
+
+-- no octets change nothing
+pub put_nothing : (m : List ℕ) (p : ℕ) (a : List ℕ) → length a ≡ 0 → m ≡ put_at m p a
+put_nothing m p a none =
+    let here : p + 0 ≡ p = omega arith in
+    let same : m ≡ put_at m p [] = rw here (sym (take-append-drop p m)) in
+    subst (λ (x : List ℕ). m ≡ put_at m p x) (sym (nil_from_length a none)) same

@@ -120,19 +120,9 @@ fn question_fields(query_type: u16, class: u16) -> [u8; 4]
 pub(crate) fn record_fields(record_type: u16, class: u16, ttl: u32) -> [u8; 10]
     ensures { result ≡ fields_of_record record_type class ttl }
 {
-    let record_type = record_type.to_be_bytes();
-    let class = class.to_be_bytes();
-    let ttl = ttl.to_be_bytes();
-    [
-        record_type[0],
-        record_type[1],
-        class[0],
-        class[1],
-        ttl[0],
-        ttl[1],
-        ttl[2],
-        ttl[3],
-        0,
-        0,
-    ]
+    let mut fields = [0; 10];
+    put_at(&mut fields, 0, &record_type.to_be_bytes());
+    put_at(&mut fields, 2, &class.to_be_bytes());
+    put_at(&mut fields, 4, &ttl.to_be_bytes());
+    fields
 }

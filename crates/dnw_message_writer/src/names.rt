@@ -188,9 +188,21 @@ fn put_parts(
     }
     let middle = at + front.len();
     let end = middle + last.len();
-    put_at(message, at, front);
+    put_front(message, at, front);
     put_at(message, middle, last);
     Some(end)
+}
+
+/// Puts octets at an offset. Often there are none, and nothing is copied.
+#[inline(always)]
+fn put_front(message: &mut [u8], at: usize, octets: &[u8])
+    requires { at + length octets.now ≤ length message.old }
+    ensures { message.new ≡ put_at message.old at octets.now }
+{
+    if octets.is_empty() {
+        return;
+    }
+    put_at(message, at, octets);
 }
 
 /// Puts octets at an offset.

@@ -10,7 +10,7 @@ returns-clause-some c =
     let front = c.args.front.now in
     let last = c.args.last.now in
     let size = length-append front last in (
-      c.put_at-2.ensures ∙ ap (λ x. put_at x (at + length front) last) c.put_at.ensures
+      c.put_at.ensures ∙ ap (λ x. put_at x (at + length front) last) c.put_front.ensures
           ∙ put_at_put_at m at (at + length front) front last (omega arith) (omega (arith, c.requires)),
       omega (arith, size),
       omega (arith, c.if-front-room.false, c.if-last-room.false, c.requires),
