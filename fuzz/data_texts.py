@@ -24,6 +24,38 @@ MORE = {
     "TXT": ["one \"two words\" \"\"", "a\\;b \"a;b\" \\\"", "\\000\\255 \"\\\\\"", "\u00e9 \"\u00e9\""],
     "SPF": ["\"v=spf1 -all\""],
 }
+# Types whose text has more than one word for a field, or a form of its own.
+OWN_FORMS = {
+    "LOC": [
+        "52 22 23 N 4 53 32 E -2m",
+        "42 21 54 N 71 06 18 W -24m 30m",
+        "42 21 43.952 N 71 5 6.344 W -24m 1m 200m",
+        "52 14 05 N 00 08 50 E 10m",
+        "32 7 19 S 116 2 25 E 10m",
+        "0 N 0 E 0",
+        "90 S 180 0 0.000 W 42849672.95m 90000000.00m 0m 0.01m",
+        "89 59 59.999 N 179 59 59.999 W -100000.00m 0.5m 12.34 99",
+    ],
+    "APL": ["1:192.168.32.0/21 !1:192.168.38.0/28", "1:192.168.42.0/26 1:192.168.42.64/26 !1:192.168.42.128/25", "1:224.0.0.0/4 2:FF00:0:0:0:0:0:0:0/8", "1:0.0.0.0/0 2:::/0", "2:2001:db8::1/128"],
+    "NSAP": ["0x47.0005.80.005a00.0000.0001.e133.ffffff000161.00", "0x47000580005a0000000001e133ffffff00016100", "0x00"],
+    "NID": ["10 0014:4fff:ff20:ee64", "65535 ffff:FFFF:0000:0001"],
+    "L64": ["10 2001:0DB8:1140:1000", "0 0000:0000:0000:0000"],
+    "IPSECKEY": [
+        "10 1 2 192.0.2.38 AQNRU3mG7TVTO2BkR47usntb102uFJtugbo6BSGvgqt4AQ==",
+        "10 0 2 . AQNRU3mG7TVTO2BkR47usntb102uFJtugbo6BSGvgqt4AQ==",
+        "10 2 2 2001:0DB8:0:8002::2000:1 AQNRU3mG7TVTO2BkR47usntb102uFJtugbo6BSGvgqt4AQ==",
+        "10 3 2 mygateway.example.com. AQNRU3mG7TVTO2BkR47usntb102uFJtugbo6BSGvgqt4AQ==",
+    ],
+    "HIP": [
+        "2 200100107B1A74DF365639CC39F1D578 AwEAAbdxyhNuSutc5EMzxTs9LBPCIkOFH8cIvM4p9+LrV4e19WzK00+CI6zBCQTdtWsuxKbWIy87UOoJTwkUs7lBu+Upr1gsNrut79ryra+bSRGQ",
+        "2 200100107b1a74df365639cc39f1d578 AwEAAbdx rvs.example.com.",
+        "255 00 AA== rvs1.example.com. rvs2.example.com.",
+    ],
+    "AMTRELAY": ["10 0 1 203.0.113.15", "10 0 2 2001:db8::15", "128 1 3 amtrelays.example.com.", "255 0 0 ."],
+    "WKS": ["10.0.0.1 6 25 80", "192.0.2.1 17 53 0", "192.0.2.1 TCP 25"],
+    "NXT": ["big.example.com. A MX SIG NXT", ". A NXT"],
+    "DSYNC": ["CDS NOTIFY 5359 cds-scanner.example.net.", "CSYNC 1 5360 .", "A 255 0 a."],
+}
 EXAMPLES = {
     "A": ["192.0.2.1", "0.0.0.0", "255.255.255.255"],
     "NS": ["a.example.", "@.", "a\\.b.c.", "."],
@@ -66,6 +98,7 @@ EXAMPLES = {
     "LP": ["10 l64.example."],
     "L32": ["10 10.1.2.0"],
     **MORE,
+    **OWN_FORMS,
 }
 # Why ours is as fewer than two of them: of which type and text, by the octets of ours and of each, None for those that refuse.
 DIFFERENCES = {
@@ -163,6 +196,8 @@ def by_nsd(kind, text):
     lines = [line.split("\t", 4) for line in ran.stdout.decode("latin-1").split("\n") if line.startswith("x\t")]
     if ran.returncode or len(lines) != 1 or len(lines[0]) != 5:
         return None
+    if lines[0][4].startswith("\\#"):
+        return "".join(lines[0][4].split()[2:]).lower()
     return by_bind(kind, lines[0][4]) or "what BIND does not read"
 
 

@@ -2,9 +2,9 @@
    files. docs/C.md shows how to link it.
 
    An input is a pointer and its length. A result is stored in a buffer of the caller, which is a pointer and its size.
-   No such pointer may be null, even if its length is 0, and a buffer that is written must not overlap any other
-   argument. Nothing is kept from one call to the next: a caller frees only its own memory, and may call from several
-   threads at once.
+   Such a pointer may be null if its length or size is 0, and no other may be. A buffer that is written must not overlap
+   any other argument. Nothing is kept from one call to the next: a caller frees only its own memory, and may call from
+   several threads at once.
 
    Each function except `dnw_error_text` and `dnw_serial_add` returns 0, or the number of an error. A function that
    fails stores nothing, neither in the buffer nor through a pointer. There are exceptions: `dnw_name_text_fault` and

@@ -98,6 +98,26 @@ fn errors_have_places_and_reading_goes_on() {
     assert_eq!(format!("{:?}", errors[0]), "ZoneError(4:6: wanted an IPv4 address (field 0))");
 }
 
+/// Errors of names and zones go through `?` as any error, to another thread too, and are the same there, with where they are.
+#[test]
+fn errors_are_those_of_std() {
+    type Any = Box<dyn std::error::Error + Send + Sync>;
+    fn parsed(text: &str) -> Result<Name, Any> {
+        Ok(text.parse::<Name>()?)
+    }
+    fn first(text: &[u8]) -> Result<Option<ZoneItem>, Any> {
+        Ok(ZoneReader::new(text, &name("o.")).next().transpose()?)
+    }
+    let error = parsed("a..b").unwrap_err();
+    assert_eq!(error.downcast_ref::<dns_names_wire::Error>().and_then(|own| own.offset()), Some(2));
+    assert_eq!(error.to_string(), parsed("a..b").unwrap_err().to_string());
+    let error = std::thread::spawn(|| first(b"x 1 A 1.2.3").unwrap_err()).join().unwrap();
+    let own = error.downcast_ref::<ZoneError>().unwrap();
+    assert_eq!((own.line(), own.column()), (1, 7));
+    assert!(std::error::Error::source(own).is_none());
+    assert_eq!(first(b"x 1 A 192.0.2.1\n").unwrap().iter().count(), 1);
+}
+
 #[test]
 fn lines_of_errors_are_shown_as_ascii() {
     let text = |text: &[u8]| ZoneReader::new(text, &name("o.")).next().unwrap().unwrap_err().text().to_string();
