@@ -17,7 +17,7 @@ from servers import record
 ORIGIN = dns.name.from_text("example.")
 
 # The types that the program reads without a text of their own here: their texts are not parsed.
-GENERIC = {"AMTRELAY", "APL", "HIP", "IPSECKEY", "L64", "LOC", "NID", "NSAP", "TKEY", "TSIG", "TYPE10", "TYPE731", "WKS"}
+GENERIC = {"APL", "L64", "NID", "NSAP", "TKEY", "TSIG", "TYPE10", "TYPE731", "WKS"}
 MORE = [
     ("RFC 1035, section 5.1", 'TXT "a\\"b\\\\c\\007\\255"', "NS a\\.b\\032c\\200.example.", "MX 10 \\@\\;\\(.example."),
     ("RFC 4034, section 4.2", "NSEC . A NS SOA MX TXT AAAA SRV RRSIG NSEC DNSKEY CAA", "NSEC a.example. TYPE65535"),
@@ -41,7 +41,11 @@ def rows(text):
     named = dns.rdatatype.from_text(kind)
     code = dns.rdatatype.from_text(make_fields.LIKE.get(kind, kind))
     data = dns.rdata.from_text("IN", code, text, origin=ORIGIN, relativize=False)
-    digits = data.to_wire(origin=ORIGIN).hex()
+    wire = data.to_wire(origin=ORIGIN)
+    digits = wire.hex()
+    if kind == "IPSECKEY":
+        # dnspython keeps the text of an address
+        data = dns.rdata.from_wire("IN", code, wire, 0, len(wire))
     yield f"data-text {int(named)} {digits or '-'} = {record.data_text(data)}"
     if kind not in GENERIC:
         # dnspython has mnemonics in a CERT

@@ -60,7 +60,7 @@ REFUSED = {"bind": {"MD", "MF"}, "knot": set(), "powerdns": set()}
 
 # The types whose data have a text of their own here. Those of the others are shown as RFC 3597 does.
 TEXTS = set("""A NS MD MF CNAME SOA MB MG MR PTR HINFO MINFO MX TXT RP AFSDB RT PX SIG KEY AAAA SRV NAPTR KX CERT DNAME DS SSHFP
-    RRSIG DNSKEY NSEC3PARAM TLSA SMIMEA CDS CDNSKEY OPENPGPKEY ZONEMD SPF URI CAA NSEC NSEC3 CSYNC EUI48 EUI64 SVCB HTTPS""".split())
+    RRSIG DNSKEY NSEC3PARAM TLSA SMIMEA CDS CDNSKEY OPENPGPKEY ZONEMD SPF URI CAA NSEC NSEC3 CSYNC EUI48 EUI64 SVCB HTTPS IPSECKEY HIP LOC""".split())
 
 # Those whose letters are hexadecimal digits, which dnspython has in lower case.
 HEXADECIMAL = {"DS", "CDS", "SSHFP", "TLSA", "SMIMEA", "ZONEMD", "NSEC3PARAM"}
@@ -90,6 +90,14 @@ def data_text(record):
     if kind == "CERT":
         numbers = (record.certificate_type, record.key_tag, record.algorithm)
         return " ".join([*(str(int(number)) for number in numbers), record.to_text(chunksize=0).split()[-1]])
+    if kind == "LOC":
+        # dnspython leaves out the sizes that RFC 1876, section 3, has by default; BIND, as here, shows all, and no zeros of whole metres
+        words = record.to_text().split()
+        sizes = words[9:] or ["1.00m", "10000.00m", "10.00m"]
+        return " ".join([*words[:9], *(re.sub(r"^([1-9]\d*)\.00m$", r"\1m", size) for size in sizes)])
+    if kind == "HIP":
+        algorithm, tag, rest = record.to_text().split(" ", 2)
+        return " ".join([algorithm, tag.upper(), rest])
     if kind in ("OPENPGPKEY", "EUI48", "EUI64"):
         return record.to_text()
     if kind in ("SVCB", "HTTPS"):
