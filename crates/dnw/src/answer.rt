@@ -1,6 +1,6 @@
 //! What the program answers to its words.
 
-use dnw_shell_base::Refusal;
+use dnw_shell_base::{Refusal, Watch};
 use dnw_shell_messages::messages;
 use dnw_shell_names::names::names;
 use dnw_shell_names::queries::query;
@@ -61,14 +61,18 @@ Examples: dnw query example.com. MX --dnssec | dnw message -
               dnw message -";
 
 /// Writes the answer to the words, the program's own name not among them, and returns the exit status: 0 for an
-/// answer, 1 for a refusal, 2 for words that ask for nothing. It fails if the answer cannot be written.
-pub fn answer<E: Files + RandomSource + AllocGlobal, I: Read, W: Write>(
+/// answer, 1 for a refusal, 2 for words that ask for nothing. What watches long work is told when it
+/// ends, before anything is written. It fails if the answer cannot be written.
+pub fn answer<E: Files + RandomSource + AllocGlobal, I: Read, W: Write, P: Watch>(
     env: &E,
     words: &[String],
     input: &mut I,
     out: &mut W,
+    watch: &mut P,
 ) -> io::Result<u8> {
-    match reply(env, words, input) {
+    let replied = reply(env, words, input, watch);
+    watch.ends();
+    match replied {
         Ok(text) => {
             writeln!(out, "{text}")?;
             Ok(0)
@@ -83,15 +87,16 @@ pub fn answer<E: Files + RandomSource + AllocGlobal, I: Read, W: Write>(
     }
 }
 
-fn reply<E: Files + RandomSource + AllocGlobal, I: Read>(
+fn reply<E: Files + RandomSource + AllocGlobal, I: Read, P: Watch>(
     env: &E,
     words: &[String],
     input: &mut I,
+    watch: &mut P,
 ) -> Result<String, Refusal> {
     let alloc = env.alloc();
     match words {
         [command, words @ ..] if command.as_str() == "message" => {
-            messages(env, alloc, words, input)
+            messages(env, alloc, words, input, watch)
         }
         [command, name, record_type, words @ ..] if command.as_str() == "query" => {
             query(env, alloc, name.as_str(), record_type.as_str(), words)
@@ -104,11 +109,19 @@ fn reply<E: Files + RandomSource + AllocGlobal, I: Read>(
         }
         [command, apex, algorithm, dash]
             if command.as_str() == "zone-digest" && dash.as_str() == "-" => {
-            digest(env, alloc, apex.as_str(), algorithm.as_str(), input)
+            digest(env, alloc, apex.as_str(), algorithm.as_str(), input, watch)
         }
         [command, file, option, origin, options @ ..]
             if command.as_str() == "zone" && option.as_str() == "--origin" => {
-            zone(env, alloc, file.as_str(), origin.as_str(), options, input)
+            zone(
+                env,
+                alloc,
+                file.as_str(),
+                origin.as_str(),
+                options,
+                input,
+                watch,
+            )
         }
         [option] if option.as_str() == "--help" || option.as_str() == "-h" => {
             Ok(String::from_str(alloc, HELP)?)

@@ -4,7 +4,8 @@
 mod answer;
 
 use answer::answer;
-use std::io::{Read, Write};
+use dnw_shell_base::{Progress, Watch};
+use std::io::{IsTerminal, Read, Write};
 use std::process::ExitCode;
 use std::random::RandomSource;
 use std::rt::{Env, Files};
@@ -19,21 +20,24 @@ fn words<E: Env + AllocGlobal>(env: &E) -> io::Result<Vec<String>> {
     Ok(words)
 }
 
-fn run<E: Env + Files + RandomSource + AllocGlobal, I: Read, W: Write>(
+fn run<E: Env + Files + RandomSource + AllocGlobal, I: Read, W: Write, P: Watch>(
     env: &E,
     input: &mut I,
     out: &mut W,
+    watch: &mut P,
 ) -> io::Result<u8> {
     match words(env) {
-        Ok(words) => answer(env, words.as_slice(), input, out),
+        Ok(words) => answer(env, words.as_slice(), input, out, watch),
         // Words that are not text ask for nothing that the program does, as no words do.
-        Err(e) if e.kind() == io::ErrorKind::InvalidData => answer(env, &[], input, out),
+        Err(e) if e.kind() == io::ErrorKind::InvalidData => answer(env, &[], input, out, watch),
         Err(e) => Err(e),
     }
 }
 
 fn main(rt: HostRuntime) -> ExitCode {
-    match run(&rt, &mut rt.reader(), &mut io::writer(&rt)) {
+    let is_terminal = rt.stderr().is_terminal();
+    let mut progress = Progress::new(rt.alloc(), &rt, rt.stderr(), is_terminal);
+    match run(&rt, &mut rt.reader(), &mut io::writer(&rt), &mut progress) {
         Ok(status) => ExitCode::from(status),
         Err(_) => ExitCode::FAILURE,
     }

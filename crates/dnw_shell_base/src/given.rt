@@ -1,4 +1,7 @@
 //! What commands are given: files, standard input, and hexadecimal digits.
+ghost use Rattle.std.specs.Prelude.{◌≡◌, Ok, IfOk, IfErr, IsErr};
+ghost use Rattle.hex.specs.Hex.{decode_of};
+ghost use Rattle.dnw_shell_base.specs.declared.refusal.Refusal.TheVariants.{Usage};
 
 use crate::refusal::Refusal;
 use dns_names_wire::ProtoError;
@@ -35,8 +38,12 @@ fn read_file<E: Files>(env: &E, file: &str, octets: &mut Vec<u8>) -> io::Result<
     Ok(())
 }
 
-/// Octets in hexadecimal digits of either case.
-pub fn octets(alloc: Global, text: &str) -> Result<Vec<u8>, Refusal> {
+/// Returns the octets that hexadecimal digits of either case stand for, two each. It fails with `Usage` if the text is not of such
+/// digits, and else only if an allocation fails.
+pub fn octets(alloc: Global, text: &str) -> Result<Vec<u8>, Refusal>
+    ensures ok { IfOk result (λ octets. decode_of text.now ≡ Ok octets.items) }
+    ensures err { IfErr result (λ e. e ≡ Usage → IsErr (decode_of text.now)) }
+{
     hex::decode(alloc, text).map_err(|e| match e {
         FromHexError::OutOfMemory => Refusal::Proto(ProtoError::Memory),
         _ => Refusal::Usage,

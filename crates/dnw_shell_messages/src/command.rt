@@ -4,7 +4,7 @@ use crate::page::Page;
 use crate::{dig, json};
 use dns_names_wire::error::DecodeError;
 use dns_names_wire::message::{EdnsError, MessageRef};
-use dnw_shell_base::{Refusal, contents, octets};
+use dnw_shell_base::{Refusal, Watch, contents, octets};
 use std::alloc::Global;
 use std::io::Read;
 use std::rt::Files;
@@ -40,11 +40,12 @@ struct Wanted<'w> {
 
 /// Returns the messages of the source that the words name, as they ask for. If there are many, each that is refused has a line
 /// that says why, and all of them are a refusal.
-pub fn messages<E: Files, I: Read>(
+pub fn messages<E: Files, I: Read, P: Watch>(
     env: &E,
     alloc: Global,
     words: &[String],
     input: &mut I,
+    watch: &mut P,
 ) -> Result<String, Refusal> {
     let wanted = wanted_of(words)?;
     let Some(source) = wanted.source else {
@@ -59,12 +60,12 @@ pub fn messages<E: Files, I: Read>(
         ),
         Form::Lines => {
             let mut page = Page::new(alloc, wanted.layout);
-            page.add_lines(alloc, given.as_slice())?;
+            page.add_lines(alloc, given.as_slice(), watch)?;
             page.finish()
         }
         Form::Framed => {
             let mut page = Page::new(alloc, wanted.layout);
-            page.add_frames(alloc, message_octets(alloc, given)?.as_slice())?;
+            page.add_frames(alloc, message_octets(alloc, given)?.as_slice(), watch)?;
             page.finish()
         }
     }

@@ -1,7 +1,7 @@
 //! Many messages, one after the other.
 
 use crate::command::{Layout, shown};
-use dnw_shell_base::{Refusal, octets};
+use dnw_shell_base::{Refusal, Watch, octets};
 use std::alloc::Global;
 
 /// The text of messages, and of why some were refused.
@@ -26,10 +26,16 @@ impl Page {
     }
 
     /// Adds the messages of a text that has each as a line of hexadecimal digits, in which white space says nothing.
-    pub(crate) fn add_lines(&mut self, alloc: Global, text: &[u8]) -> Result<(), Refusal> {
+    pub(crate) fn add_lines<P: Watch>(
+        &mut self,
+        alloc: Global,
+        text: &[u8],
+        watch: &mut P,
+    ) -> Result<(), Refusal> {
         let mut digits = String::new(alloc);
-        for byte in text {
+        for (at, byte) in text.iter().enumerate() {
             if *byte == b'\n' {
+                watch.is_at(at, text.len());
                 self.add_digits(alloc, digits.as_str())?;
                 digits = String::new(alloc);
             } else if !byte.is_ascii_whitespace() {
@@ -52,9 +58,15 @@ impl Page {
     }
 
     /// Adds the messages of a stream that has the length of each in two octets before it.
-    pub(crate) fn add_frames(&mut self, alloc: Global, stream: &[u8]) -> Result<(), Refusal> {
+    pub(crate) fn add_frames<P: Watch>(
+        &mut self,
+        alloc: Global,
+        stream: &[u8],
+        watch: &mut P,
+    ) -> Result<(), Refusal> {
         let mut left = stream;
         for _ in 0..stream.len() {
+            watch.is_at(stream.len().saturating_sub(left.len()), stream.len());
             let [high, low, rest @ ..] = left else {
                 break;
             };

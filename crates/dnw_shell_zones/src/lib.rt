@@ -12,9 +12,13 @@ pub mod command;
 mod faults;
 /// Files that zone files include (RFC 1035, section 5.1).
 mod includes;
+/// Records that are kept until all of a zone are there.
+mod kept;
 /// Zone files, as lines of their records.
 mod listing;
 /// The records of a zone, as they are shown.
 mod shown;
+/// The order of sort keys.
+mod sorting;
 
 pub use command::{digest, zone};

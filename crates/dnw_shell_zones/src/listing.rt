@@ -2,6 +2,7 @@
 
 use crate::faults::{Fault, moved};
 use crate::includes;
+use crate::kept::Place;
 use crate::shown::{Shown, Wanted};
 use dns_names_wire::ProtoError;
 use dns_names_wire::data_text::{DataTextError, RecordLineError};
@@ -9,7 +10,7 @@ use dns_names_wire::name::Name;
 use dns_names_wire::zone::{
     Context, Entry, Found, Include, TextPlace, ZoneError, ZoneRecord, take_entry,
 };
-use dnw_shell_base::Refusal;
+use dnw_shell_base::{Refusal, Watch};
 use std::alloc::Global;
 use std::rt::Files;
 
@@ -18,6 +19,8 @@ use std::rt::Files;
 pub(crate) struct Source {
     /// The file, as its errors name it.
     name: String,
+    /// How many files were opened before it.
+    number: usize,
     /// All octets of the file.
     text: Vec<u8>,
     /// The number of octets that are read.
@@ -33,6 +36,7 @@ impl Source {
     pub(crate) fn new(name: String, text: Vec<u8>, context: Context) -> Self {
         Source {
             name,
+            number: 0,
             text,
             used: 0,
             place: TextPlace { line: 0, column: 0 },
@@ -46,6 +50,8 @@ impl Source {
 struct Lines {
     records: Shown,
     errors: String,
+    /// The wire form of the last record.
+    wire: Vec<u8>,
 }
 
 /// What comes next.
@@ -61,22 +67,26 @@ enum Next {
 
 /// Returns the records of a zone file, and of the files that it includes, as they are wanted. If there is an error, the lines of all
 /// errors are a refusal, as compilers show them.
-pub(crate) fn listing<E: Files>(
+pub(crate) fn listing<E: Files, P: Watch>(
     env: &E,
     alloc: Global,
     file: &str,
     origin: &str,
     wanted: Wanted,
     text: Vec<u8>,
+    watch: &mut P,
 ) -> Result<String, Refusal> {
     let origin = Name::from_text(alloc, origin, None)?;
     let shown = Shown::new(alloc, wanted, Context::new(origin.copied()));
     let context = Context::new(origin);
     let mut sources = Vec::new(alloc);
     sources.push(Source::new(String::from_str(alloc, file)?, text, context))?;
+    let mut files = Vec::new(alloc);
+    files.push(String::from_str(alloc, file)?)?;
     let mut lines = Lines {
         records: shown,
         errors: String::new(alloc),
+        wire: Vec::new(alloc),
     };
     let mut line = Vec::new(alloc);
     for _ in 0..u64::MAX {
@@ -84,16 +94,21 @@ pub(crate) fn listing<E: Files>(
         let Some(source) = sources.last_mut() else {
             break;
         };
+        watch.is_at(source.used, source.text.len());
         match entry(env, alloc, source, depth, &mut line, &mut lines)? {
             Next::Entry => {}
-            Next::Source(included) => sources.push(included)?,
+            Next::Source(mut included) => {
+                included.number = files.len();
+                files.push(included.name.clone()?)?;
+                sources.push(included)?;
+            }
             Next::End => {
                 sources.pop();
             }
         }
     }
     if lines.errors.is_empty() {
-        lines.records.finish(alloc, file)
+        lines.records.finish(alloc, files.as_slice(), watch)
     } else {
         Err(Refusal::Zone(lines.errors))
     }
@@ -120,7 +135,22 @@ fn entry<E: Files>(
         start: source.place,
     };
     let next = match &step.found {
-        Ok(found) => add_entry(env, alloc, &source.context, &fault, found, depth, lines)?,
+        Ok(found) => {
+            let place = Place {
+                file: source.number,
+                line: source.place.line,
+            };
+            add_entry(
+                env,
+                alloc,
+                &source.context,
+                &fault,
+                found,
+                place,
+                depth,
+                lines,
+            )?
+        }
         Err(error) => {
             put_error(alloc, &fault, error, &mut lines.errors)?;
             Next::Entry
@@ -138,19 +168,13 @@ fn add_entry<E: Files>(
     context: &Context,
     fault: &Fault,
     found: &Found,
+    place: Place,
     depth: usize,
     lines: &mut Lines,
 ) -> Result<Next, Refusal> {
     match found {
         Found::Entry(Entry::Record(found)) => {
-            add_record(
-                alloc,
-                context,
-                found,
-                fault.file,
-                fault.start.line,
-                &mut lines.records,
-            )?;
+            add_record(alloc, context, found, place, lines)?;
             Ok(Next::Entry)
         }
         Found::Entry(Entry::Include(include)) => {
@@ -189,14 +213,13 @@ fn included<E: Files>(
     }
 }
 
-/// Adds the record of an entry that begins in this line of a file.
+/// Adds the record of an entry that begins at a place.
 fn add_record(
     alloc: Global,
     context: &Context,
     found: &ZoneRecord,
-    file: &str,
-    line: usize,
-    records: &mut Shown,
+    place: Place,
+    lines: &mut Lines,
 ) -> Result<(), Refusal> {
     let Some(owner) = &context.owner else {
         return Ok(());
@@ -204,13 +227,15 @@ fn add_record(
     let Ok(len) = u16::try_from(found.wire.len()) else {
         return Ok(());
     };
-    let mut octets = Vec::from_slice(alloc, owner.as_bytes())?;
-    octets.extend_from_slice(&found.record_type.code().to_be_bytes())?;
-    octets.extend_from_slice(&found.class.code().to_be_bytes())?;
-    octets.extend_from_slice(&found.ttl.to_be_bytes())?;
-    octets.extend_from_slice(&len.to_be_bytes())?;
-    octets.extend_from_slice(found.wire.as_slice())?;
-    records.add(alloc, octets, file, line)
+    let wire = &mut lines.wire;
+    wire.clear();
+    wire.extend_from_slice(owner.as_bytes())?;
+    wire.extend_from_slice(&found.record_type.code().to_be_bytes())?;
+    wire.extend_from_slice(&found.class.code().to_be_bytes())?;
+    wire.extend_from_slice(&found.ttl.to_be_bytes())?;
+    wire.extend_from_slice(&len.to_be_bytes())?;
+    wire.extend_from_slice(found.wire.as_slice())?;
+    lines.records.add(alloc, lines.wire.as_slice(), place)
 }
 
 /// Appends why an entry is none. It fails if memory ran out while it was read.

@@ -1,12 +1,12 @@
 //! The records of a zone, as they are shown.
 
-use crate::checked;
+use crate::checked::findings;
+use crate::kept::{Kept, Place};
 use dns_names_wire::binary::BinDecodable;
-use dns_names_wire::canonical::record_key;
 use dns_names_wire::data_text::record_text;
 use dns_names_wire::record::RecordRef;
 use dns_names_wire::zone::{Context, append_origin, append_short_record, append_ttl};
-use dnw_shell_base::Refusal;
+use dnw_shell_base::{Refusal, Watch};
 use std::alloc::Global;
 
 /// How records are shown.
@@ -31,17 +31,12 @@ pub(crate) struct Wanted {
     pub(crate) is_sorted: bool,
 }
 
-/// A record that is kept, in wire form: after its sort key, and after the number of records that were kept before it.
-pub(crate) type Kept = (Vec<u8>, usize, Vec<u8>);
-
 /// The records of a zone, shown, or kept until all are there.
 #[derive(Drop)]
 pub(crate) struct Shown {
     page: Page,
     is_sorted: bool,
-    kept: Vec<Kept>,
-    /// The places of the records that are kept, as they came.
-    places: Vec<String>,
+    kept: Kept,
 }
 
 impl Shown {
@@ -54,45 +49,36 @@ impl Shown {
                 text: String::new(alloc),
             },
             is_sorted: wanted.is_sorted || wanted.form == Form::Findings,
-            kept: Vec::new(alloc),
-            places: Vec::new(alloc),
+            kept: Kept::new(alloc),
         }
     }
 
-    /// Adds the record that has this wire form, of a line of a file, from 0.
-    pub(crate) fn add(
-        &mut self,
+    /// Adds the record that has this wire form, and is at this place.
+    pub(crate) fn add(&mut self, alloc: Global, wire: &[u8], place: Place) -> Result<(), Refusal> {
+        if self.is_sorted {
+            self.kept.add(alloc, wire, place)
+        } else {
+            self.page.show(alloc, wire)
+        }
+    }
+
+    /// Returns the text of all records of the files, or of what they are found to have, without the end of its last line.
+    pub(crate) fn finish<P: Watch>(
+        mut self,
         alloc: Global,
-        wire: Vec<u8>,
-        file: &str,
-        line: usize,
-    ) -> Result<(), Refusal> {
-        if !self.is_sorted {
-            return self.page.show(alloc, wire.as_slice());
+        files: &[String],
+        watch: &mut P,
+    ) -> Result<String, Refusal> {
+        if self.kept.len() > 0 {
+            watch.begins("sorting", self.kept.len());
         }
-        let key = record_key(alloc, &RecordRef::from_bytes(alloc, wire.as_slice())?)?;
-        self.kept.push((key, self.kept.len(), wire))?;
+        let records = self.kept.in_order(alloc)?;
         if self.page.form == Form::Findings {
-            self.places
-                .push(format!(in alloc; "{file}:{}", line.saturating_add(1))?)?;
+            watch.begins("checking", records.order().len());
+            return findings(alloc, &self.page.context.origin, &records, files);
         }
-        Ok(())
-    }
-
-    /// Returns the text of all records of a file, or of what they are found to have, without the end of its last line.
-    pub(crate) fn finish(mut self, alloc: Global, file: &str) -> Result<String, Refusal> {
-        self.kept.sort_unstable();
-        if self.page.form == Form::Findings {
-            return checked::findings(
-                alloc,
-                file,
-                &self.page.context.origin,
-                self.kept.as_slice(),
-                self.places.as_slice(),
-            );
-        }
-        for (_, _, wire) in &self.kept {
-            self.page.show(alloc, wire.as_slice())?;
+        for number in records.order() {
+            self.page.show(alloc, records.wire(*number))?;
         }
         self.page.text.pop();
         Ok(self.page.text)
