@@ -18,7 +18,7 @@ use Rattle.dnw_data.specs.declared.kind.Kind.{Kind}
 use Rattle.dnw_data.specs.declared.kind.Kind.TheVariants as kinds
 use Rattle.dnw_data.specs.declared.kind.ListKind.TheVariants as lists
 use Rattle.dnw_data.specs.declared.kind.Shown.{Shown}
-use Rattle.dnw_data.specs.declared.kind.Shown.TheVariants.{Text, Tag, Hex, Base32Hex, Base64, Other}
+use Rattle.dnw_data.specs.declared.kind.Shown.TheVariants.{Text, Tag, Hex, Base32Hex, Base64, MaybeBase64, Nsap, Ports, OldTypes}
 use Rattle.dnw_data.specs.Fields.{own_at, size_at, TakesField}
 use Rattle.dnw_data.specs.Values.{FieldValue, name, u16, u48, u64, counted, long_counted, shaped, octets, prefixes, names, items, long_counted_size}
 use Rattle.dnw_data.proofs.Shaping.{long_is}
@@ -27,6 +27,7 @@ use Rattle.dnw_zone_values.specs.Strings.{IsString}
 use Rattle.dnw_zone_values.proofs.ParamTextsBack.{drop_fit, halves, octets_fit, segments_fit, take_fit}
 use Rattle.dnw_data.specs.FieldWires.{field_wire}
 use Rattle.dnw_zone_data.specs.DataTextLaws.{FieldComesBack}
+use Rattle.dnw_zone_data.proofs.ListedBack.{locator_field, node_field, nsap_field, prefixes_field}
 use Rattle.dnw_zone_data.proofs.FieldsBack.{first, u8_back, u16_back, u32_back, time_back, type_back, ipv4_back, string_back, tag_back, salt_back, hash_back, octets_back, text_back, strings_back}
 use Rattle.dnw_zone_data.proofs.GatewaysBack.{shaped_back}
 use Rattle.dnw_zone_data.proofs.NameListsBack.{names_back}
@@ -116,14 +117,24 @@ field_back (kinds.Counted Base32Hex) d value after h takes few =
     by_value (kinds.Counted Base32Hex) value (counted own) takes.2 (λ origin way text rest print end. hash_back own (is.0, print.0, is.1) origin way text rest print end)
 field_back (kinds.Counted Base64) d value after h takes few =
     by_value (kinds.Counted Base64) value (counted (drop 1 (own_at (kinds.Counted Base64) d))) takes.2 (λ origin way text rest print end. absurd print)
-field_back (kinds.Counted Other) d value after h takes few =
-    by_value (kinds.Counted Other) value (counted (drop 1 (own_at (kinds.Counted Other) d))) takes.2 (λ origin way text rest print end. absurd print)
+field_back (kinds.Counted MaybeBase64) d value after h takes few =
+    by_value (kinds.Counted MaybeBase64) value (counted (drop 1 (own_at (kinds.Counted MaybeBase64) d))) takes.2 (λ origin way text rest print end. absurd print)
+field_back (kinds.Counted Nsap) d value after h takes few =
+    by_value (kinds.Counted Nsap) value (counted (drop 1 (own_at (kinds.Counted Nsap) d))) takes.2 (λ origin way text rest print end. absurd print)
+field_back (kinds.Counted Ports) d value after h takes few =
+    by_value (kinds.Counted Ports) value (counted (drop 1 (own_at (kinds.Counted Ports) d))) takes.2 (λ origin way text rest print end. absurd print)
+field_back (kinds.Counted OldTypes) d value after h takes few =
+    by_value (kinds.Counted OldTypes) value (counted (drop 1 (own_at (kinds.Counted OldTypes) d))) takes.2 (λ origin way text rest print end. absurd print)
 field_back kinds.LongTime d value after h takes few =
     by_value kinds.LongTime value (u48 (from_be_bytes w64 (0 ∷ 0 ∷ own_at kinds.LongTime d))) takes.2 (λ origin way text rest print end. absurd print)
 field_back kinds.ChaosAddress d value after h takes few =
     by_value kinds.ChaosAddress value (u16 (from_be_bytes w16 (own_at kinds.ChaosAddress d))) takes.2 (λ origin way text rest print end. absurd print)
 field_back kinds.Locator d value after h takes few =
-    by_value kinds.Locator value (u64 (from_be_bytes w64 (own_at kinds.Locator d))) takes.2 (λ origin way text rest print end. absurd print)
+    let fit = own_fit kinds.Locator d h in
+    by_value kinds.Locator value _ takes.2 (locator_field _ (omega (arith, fit 0, fit 1, fit 2, fit 3, fit 4, fit 5, fit 6, fit 7)))
+field_back kinds.NodeNumber d value after h takes few =
+    let fit = own_fit kinds.NodeNumber d h in
+    by_value kinds.NodeNumber value _ takes.2 (node_field _ (omega (arith, fit 0, fit 1, fit 2, fit 3, fit 4, fit 5, fit 6, fit 7)))
 field_back (kinds.LongCounted shown) d value after h takes few =
     by_value (kinds.LongCounted shown) value (long_counted (drop 2 (own_at (kinds.LongCounted shown) d))) takes.2 (λ origin way text rest print end. absurd print)
 field_back (kinds.Shaped shape) d value after h takes few =
@@ -137,11 +148,15 @@ field_back (kinds.Octets Tag) d value after h takes few =
     by_value (kinds.Octets Tag) value (octets (own_at (kinds.Octets Tag) d)) takes.2 (λ origin way text rest print end. absurd print)
 field_back (kinds.Octets Base32Hex) d value after h takes few =
     by_value (kinds.Octets Base32Hex) value (octets (own_at (kinds.Octets Base32Hex) d)) takes.2 (λ origin way text rest print end. absurd print)
-field_back (kinds.Octets Other) d value after h takes few =
-    by_value (kinds.Octets Other) value (octets (own_at (kinds.Octets Other) d)) takes.2 (λ origin way text rest print end. absurd print)
+field_back (kinds.Octets MaybeBase64) d value after h takes few =
+    by_value (kinds.Octets MaybeBase64) value (octets (own_at (kinds.Octets MaybeBase64) d)) takes.2 (λ origin way text rest print end. absurd print)
+field_back (kinds.Octets Ports) d value after h takes few =
+    by_value (kinds.Octets Ports) value (octets (own_at (kinds.Octets Ports) d)) takes.2 (λ origin way text rest print end. absurd print)
+field_back (kinds.Octets OldTypes) d value after h takes few =
+    by_value (kinds.Octets OldTypes) value (octets (own_at (kinds.Octets OldTypes) d)) takes.2 (λ origin way text rest print end. absurd print)
+field_back (kinds.Octets Nsap) d value after h takes few = by_value (kinds.Octets Nsap) value _ takes.2 (nsap_field _ (own_fit (kinds.Octets Nsap) d h))
 field_back (kinds.List lists.Prefixes) d value after h takes few =
-    let kind = kinds.List lists.Prefixes in
-    by_value kind value (prefixes (items lists.Prefixes (own_at kind d))) takes.2 (λ origin way text rest print end. absurd print)
+    let kind = kinds.List lists.Prefixes in by_value kind value _ takes.2 (prefixes_field (own_at kind d) (own_fit kind d h))
 field_back (kinds.List lists.Names) d value after h takes few =
     let kind = kinds.List lists.Names in by_value kind value _ takes.2 (names_back (own_at kind d) (own_fit kind d h))
 field_back (kinds.List lists.Texts) d value after h takes few =
@@ -196,6 +211,7 @@ wire_fit (kinds.Counted shown) d value after h takes =
 wire_fit kinds.LongTime d value after h takes = by_octets value _ takes.2 (six_fit _)
 wire_fit kinds.ChaosAddress d value after h takes = by_octets value _ takes.2 (two_fit _)
 wire_fit kinds.Locator d value after h takes = by_octets value _ takes.2 (eight_fit _)
+wire_fit kinds.NodeNumber d value after h takes = by_octets value _ takes.2 (eight_fit _)
 wire_fit (kinds.LongCounted shown) d value after h takes =
     let own = own_at (kinds.LongCounted shown) d in
     by_octets value _ takes.2 (both_fit (to_be_bytes w16 (length (drop 2 own))) (drop 2 own) (two_fit _) (drop_fit 2 own (own_fit (kinds.LongCounted shown) d h)))

@@ -3,6 +3,7 @@ pub mod TypeSteps
 pub mod PrefixSteps
 pub mod PrefixListsBack
 pub mod LocatorsBack
+pub mod ListedBack
 pub mod ParamWalks
 pub mod Whole
 pub mod CodesWithin

@@ -17,7 +17,7 @@ use Rattle.dnw_data.specs.declared.kind.ListKind.TheVariants as lists
 use Rattle.dnw_data.specs.declared.kind.Shape.{Shape}
 use Rattle.dnw_data.specs.declared.kind.Shape.TheVariants.{Location, Gateway, Relay, HostIdentity}
 use Rattle.dnw_data.specs.declared.kind.Shown.{Shown}
-use Rattle.dnw_data.specs.declared.kind.Shown.TheVariants.{Text, Tag, Hex, Base32Hex, Base64, Other}
+use Rattle.dnw_data.specs.declared.kind.Shown.TheVariants.{Text, Tag, Hex, Base32Hex, Base64, MaybeBase64, Nsap, Ports, OldTypes}
 use Rattle.dnw_data.specs.Table.{fields_of}
 use Rattle.dnw_data.specs.Values.{FieldValue, name, u8, u16, u32, ipv4, ipv6, type_code, time, counted, octets, texts, types, params, names, items}
 use Rattle.dnw_zone_values.specs.Mnemonics.{IsNumberOrName, algorithm_named, begins_with_digit, certificate_type_named, scheme_named}
@@ -29,6 +29,8 @@ use Rattle.dnw_zone_values.specs.Params.{ParamValue, in_key_order, params_wire}
 use Rattle.dnw_zone_data.proofs.LocationWords.{one_location}
 use Rattle.dnw_zone_data.proofs.ParamWalks.{one_params}
 use Rattle.dnw_data.specs.FieldWires.{field_wire}
+use Rattle.dnw_zone_data.proofs.LocatorsBack.{one_locator_field, one_node_number, one_nsap_field}
+use Rattle.dnw_zone_data.proofs.PrefixListsBack.{one_prefixes}
 use Rattle.dnw_zone_data.specs.declared.extent.Extent.{Extent}
 use Rattle.dnw_zone_data.specs.declared.extent.Extent.TheVariants.{One, Three, All}
 use Rattle.dnw_zone_data.specs.declared.number_form.NumberForm.{NumberForm}
@@ -69,7 +71,10 @@ one_spelled Tag text a b x y = sym x.1.0 ∙ y.1.0
 one_spelled Hex text a b x y = one_salt text a b x.1 y.1
 one_spelled Base32Hex text a b x y = same_Some a b (sym x.1.1 ∙ y.1.1)
 one_spelled Base64 text a b x y = absurd x
-one_spelled Other text a b x y = absurd x
+one_spelled MaybeBase64 text a b x y = absurd x
+one_spelled Nsap text a b x y = absurd x
+one_spelled Ports text a b x y = absurd x
+one_spelled OldTypes text a b x y = absurd x
 
 one_date : (text : List ℕ) (m n : ℕ) → IsDateText text m → IsDateText text n → m ≡ n
 one_date text m n x y =
@@ -111,6 +116,7 @@ one_word_lem origin way kinds.U48 text v w x y = one_identifier 6 eui48 text v w
 one_word_lem origin way kinds.U64 text v w x y = one_identifier 8 eui64 text v w x y
 one_word_lem origin way (kinds.Counted shown) text v w x y = x.2 ∙ ap counted (one_spelled shown text x.0 y.0 x.1 y.1) ∙ sym y.2
 one_word_lem origin way (kinds.Octets Text) text v w x y = x.2 ∙ ap octets (one_within 65535 text x.0 y.0 x.1 y.1) ∙ sym y.2
+one_word_lem origin way (kinds.Octets Nsap) text v w x y = one_nsap_field text v w x y
 one_word_lem origin way (kinds.Octets shown) text v w x y = absurd x
 one_word_lem origin way kinds.U8 text v w x y = one_number way 255 u8 text v w x y
 one_word_lem origin way kinds.U16 text v w x y = one_number way 65535 u16 text v w x y
@@ -118,7 +124,8 @@ one_word_lem origin way kinds.U32 text v w x y = one_number way 4294967295 u32 t
 one_word_lem origin way kinds.Time text v w x y = x.3 ∙ ap time (one_time text x.0 y.0 x.2 y.2) ∙ sym y.3
 one_word_lem origin way kinds.LongTime text v w x y = absurd x
 one_word_lem origin way kinds.ChaosAddress text v w x y = absurd x
-one_word_lem origin way kinds.Locator text v w x y = absurd x
+one_word_lem origin way kinds.Locator text v w x y = one_locator_field text v w x y
+one_word_lem origin way kinds.NodeNumber text v w x y = one_node_number text v w x y
 one_word_lem origin way (kinds.LongCounted shown) text v w x y = absurd x
 one_word_lem origin way (kinds.Shaped shape) text v w x y = absurd x
 one_word_lem origin way (kinds.List list) text v w x y = absurd x
@@ -169,6 +176,7 @@ one_list origin (kinds.List lists.Params) left v w hv hw (a, own, words, is, kee
 one_list origin (kinds.List lists.Names) left v w hv hw (a, words, e) (b, others, f) =
     e ∙ ap (λ (listed : List (List (List ℕ))). names (items lists.Names (flat_map wire listed))) (one_names origin left a b words others) ∙ sym f
 one_list origin (kinds.Shaped shape) left v w hv hw x y = one_whole shape left v w x y
+one_list origin (kinds.List lists.Prefixes) left v w hv hw x y = one_prefixes left v w x y
 one_list origin kind left v w hv hw x y = absurd x
 
 -- ---- three words

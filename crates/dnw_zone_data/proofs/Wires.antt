@@ -33,6 +33,7 @@ not_long (kinds.LongCounted shown) d after v h takes long =
 not_long kinds.LongTime d after v h takes long = subst IsLong takes.2 long
 not_long kinds.ChaosAddress d after v h takes long = subst IsLong takes.2 long
 not_long kinds.Locator d after v h takes long = subst IsLong takes.2 long
+not_long kinds.NodeNumber d after v h takes long = subst IsLong takes.2 long
 not_long (kinds.Shaped shape) d after v h takes long = subst IsLong takes.2 long
 not_long (kinds.List lists.Prefixes) d after v h takes long = subst IsLong takes.2 long
 not_long (kinds.List lists.Names) d after v h takes long = subst IsLong takes.2 long

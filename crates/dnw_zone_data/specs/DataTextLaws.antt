@@ -10,14 +10,14 @@ use Rattle.dnw_base.specs.DnsClasses.{class_code}
 use Rattle.dnw_base.specs.RecordTypes.{type_code as code_of, type_of_code}
 use Rattle.dnw_data.specs.declared.kind.Kind.{Kind}
 use Rattle.dnw_data.specs.declared.kind.NameForm.{NameForm}
-use Rattle.dnw_data.specs.declared.kind.Kind.TheVariants.{U8, U16, U32, U48, U64, Ipv4, Ipv6, TypeCode, Time, Counted, Octets}
+use Rattle.dnw_data.specs.declared.kind.Kind.TheVariants.{U8, U16, U32, U48, U64, Ipv4, Ipv6, TypeCode, Time, Locator, NodeNumber, Counted, Octets}
 use Rattle.dnw_data.specs.declared.kind.Kind.TheVariants as kinds
 use Rattle.dnw_data.specs.declared.kind.ListKind.TheVariants as lists
 use Rattle.dnw_data.specs.declared.kind.Shape.{Shape}
-use Rattle.dnw_data.specs.declared.kind.Shown.TheVariants.{Text, Tag, Hex, Base32Hex, Base64}
+use Rattle.dnw_data.specs.declared.kind.Shown.TheVariants.{Text, Tag, Hex, Base32Hex, Base64, Nsap}
 use Rattle.dnw_data.specs.Lists.{list_fault}
 use Rattle.dnw_data.specs.Table.{fields_of}
-use Rattle.dnw_data.specs.Values.{FieldValue, name, u8, u16, u32, u48, u64, ipv4, ipv6, type_code, time, counted, octets, texts, types, params, names, items}
+use Rattle.dnw_data.specs.Values.{FieldValue, name, u8, u16, u32, u48, u64, ipv4, ipv6, type_code, time, counted, octets, texts, types, params, prefixes, names, items}
 use Rattle.dnw_name_read.specs.ReadingLaws.{AreBytes}
 use Rattle.dnw_record.specs.Records.{RecordValue}
 use Rattle.dnw_zone_values.specs.Base32.{IsHash}
@@ -108,6 +108,16 @@ abbrev pub ListsComeBack : Type 0
 ListsComeBack =
     ((own : List ℕ) → IsOctets own → list_fault lists.Types own ≡ None → FieldComesBack (kinds.List lists.Types) (types (items lists.Types own)))
     × ((own : List ℕ) → IsOctets own → list_fault lists.Params own ≡ None → FieldComesBack (kinds.List lists.Params) (params (items lists.Params own)))
+
+-- Identifiers of nodes, locators, numbers of nodes and addresses of NSAP round-trip.
+abbrev pub FieldLocatorsComeBack : Type 0
+FieldLocatorsComeBack =
+    ((n : ℕ) → n < 2 ^ 64 → FieldComesBack Locator (u64 n)) × ((n : ℕ) → n < 2 ^ 64 → FieldComesBack NodeNumber (u64 n))
+    × ((own : List ℕ) → IsOctets own → FieldComesBack (Octets Nsap) (octets own))
+
+-- Lists of address prefixes round-trip, if each has a text.
+abbrev pub FieldPrefixesComeBack : Type 0
+FieldPrefixesComeBack = (own : List ℕ) → IsOctets own → FieldComesBack (kinds.List lists.Prefixes) (prefixes (items lists.Prefixes own))
 
 -- Strings up to the end round-trip, one or more.
 abbrev pub StringsComeBack : Type 0

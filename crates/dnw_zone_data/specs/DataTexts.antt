@@ -6,11 +6,10 @@ use Rattle.dnw_base.specs.Decoder.{Decoder}
 use Rattle.dnw_base.specs.RecordTypes.{type_code}
 use Rattle.dnw_base.specs.Names.{NameValue}
 use Rattle.dnw_data.specs.declared.kind.Kind.{Kind}
-use Rattle.dnw_data.specs.declared.kind.Kind.TheVariants.{LongTime, Locator, ChaosAddress, LongCounted, Shaped, Octets}
+use Rattle.dnw_data.specs.declared.kind.Kind.TheVariants.{LongTime, ChaosAddress, LongCounted, Shaped, Octets}
 use Rattle.dnw_data.specs.declared.kind.Kind.TheVariants as kinds
-use Rattle.dnw_data.specs.declared.kind.ListKind.TheVariants.{Prefixes}
 use Rattle.dnw_data.specs.declared.kind.Shape.TheVariants.{AddressSuffix}
-use Rattle.dnw_data.specs.declared.kind.Shown.TheVariants.{Hex, Other}
+use Rattle.dnw_data.specs.declared.kind.Shown.TheVariants.{Hex, MaybeBase64, Ports, OldTypes}
 use Rattle.std.specs.List.{list_all, list_any}
 use Rattle.dnw_data.specs.Values.{FieldValue}
 use Rattle.dnw_data.specs.Fields.{TakesField, FailsField}
@@ -31,12 +30,12 @@ use Rattle.dnw_data.specs.FieldWires.{IsLong, field_wire}
 -- kinds whose text is written here
 abbrev pub has_field_text : Kind → Bool
 has_field_text LongTime = false
-has_field_text Locator = false
 has_field_text ChaosAddress = false
 has_field_text (LongCounted shown) = false
 has_field_text (Shaped AddressSuffix) = false
-has_field_text (Octets Other) = false
-has_field_text (kinds.List Prefixes) = false
+has_field_text (Octets MaybeBase64) = false
+has_field_text (Octets Ports) = false
+has_field_text (Octets OldTypes) = false
 has_field_text kind = true
 
 -- data of these kinds are octets alone
@@ -102,10 +101,10 @@ LacksText left =
     ⊎ ((own : List ℕ) × PrintsFields left.kinds left.reader own × (is_blank left.kinds own ≡ true))
 
 -- Types of which many servers know no text: X25, ISDN, NSAP-PTR, GPOS, DHCID, NINFO, RKEY, TALINK,
--- DSYNC, HHIT, BRID, L32, LP, AVC, AMTRELAY, RESINFO, WALLET, CLA, TA and DLV.
+-- DSYNC, HHIT, BRID, L32, LP, AVC, AMTRELAY, RESINFO, WALLET, CLA, IPN, TA and DLV.
 abbrev pub little_known : List ℕ
 little_known =
-    19 ∷ 20 ∷ 23 ∷ 27 ∷ 49 ∷ 56 ∷ 57 ∷ 58 ∷ 66 ∷ 67 ∷ 68 ∷ 105 ∷ 107 ∷ 258 ∷ 260 ∷ 261 ∷ 262 ∷ 263 ∷ 32768 ∷ 32769 ∷ []
+    19 ∷ 20 ∷ 23 ∷ 27 ∷ 49 ∷ 56 ∷ 57 ∷ 58 ∷ 66 ∷ 67 ∷ 68 ∷ 105 ∷ 107 ∷ 258 ∷ 260 ∷ 261 ∷ 262 ∷ 263 ∷ 264 ∷ 32768 ∷ 32769 ∷ []
 
 unfoldable pub is_little_known : ℕ → Bool
 is_little_known code = list_any (λ known. known == code) little_known

@@ -26,6 +26,7 @@ abbrev pub octets_wanted : Shown → Wanted
 octets_wanted shown.Text = wanted.Text
 octets_wanted shown.Hex = wanted.Hexadecimal
 octets_wanted shown.Base64 = wanted.Base64
+octets_wanted shown.Nsap = wanted.Nsap
 octets_wanted form = wanted.Generic
 
 -- what is wanted of a field of a kind, whose number is in a form
@@ -49,6 +50,9 @@ wanted_of way (kinds.List lists.Texts) = wanted.Strings
 wanted_of way (kinds.List lists.Types) = wanted.Types
 wanted_of way (kinds.List lists.Params) = wanted.Params
 wanted_of way (kinds.List lists.Names) = wanted.Names
+wanted_of way (kinds.List lists.Prefixes) = wanted.Prefixes
+wanted_of way kinds.Locator = wanted.Locator
+wanted_of way kinds.NodeNumber = wanted.NodeNumber
 wanted_of way (kinds.Shaped Location) = wanted.Location
 wanted_of way (kinds.Shaped Gateway) = wanted.Gateway
 wanted_of way (kinds.Shaped Relay) = wanted.Relay

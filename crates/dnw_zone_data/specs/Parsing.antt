@@ -13,7 +13,7 @@ use Rattle.dnw_data.specs.declared.kind.ListKind.{ListKind}
 use Rattle.dnw_data.specs.declared.kind.ListKind.TheVariants as lists
 use Rattle.dnw_data.specs.declared.kind.Shape.TheVariants.{Location, Gateway, Relay, HostIdentity}
 use Rattle.dnw_data.specs.declared.kind.Shown.{Shown}
-use Rattle.dnw_data.specs.declared.kind.Shown.TheVariants.{Text, Tag, Hex, Base32Hex, Base64, Other}
+use Rattle.dnw_data.specs.declared.kind.Shown.TheVariants.{Text, Tag, Hex, Base32Hex, Base64, MaybeBase64, Nsap, Ports, OldTypes}
 use Rattle.dnw_data.specs.Values.{FieldValue, name, u8, u16, u32, u48, u64, ipv4, ipv6, time, counted, octets, texts, items}
 use Rattle.dnw_zone_values.specs.Numbers.{max_u8, max_u16, max_u32}
 use Rattle.dnw_zone_values.specs.Octets.{IsHexText, IsBase64Text, IsSaltText}
@@ -32,7 +32,9 @@ use Rattle.dnw_zone_data.specs.Words.{after_spaces, word, after_word, next_word,
 use Rattle.dnw_zone_data.specs.Faults.{fault, wanted_of}
 use Rattle.dnw_zone_data.specs.NameReading.{named_at}
 use Rattle.dnw_zone_data.specs.Gateways.{AreShape, IsShape}
+use Rattle.dnw_zone_data.specs.Locators.{IsLocatorField, IsNodeNumber, IsNsapField}
 use Rattle.dnw_zone_data.specs.NameLists.{AreNames}
+use Rattle.dnw_zone_data.specs.PrefixLists.{ArePrefixes}
 use Rattle.dnw_zone_data.specs.TypeLists.{AreTypes, IsTypeField}
 use Rattle.dnw_zone_data.specs.ParamLists.{AreParams}
 
@@ -77,9 +79,10 @@ SpellsShown Hex text own = IsUtf8 text × IsSaltText text own
 SpellsShown Base32Hex text own = IsUtf8 text × IsHashText text own
 SpellsShown shown text own = ⊥
 
--- a word is octets up to the end, written as a string is
+-- a word is octets up to the end: written as a string is, or an address of NSAP
 abbrev pub IsOctetsOf : Shown → List ℕ → FieldValue → Type 0
 IsOctetsOf Text text value = AreOctetsOf IsLongText octets text value
+IsOctetsOf Nsap text value = IsNsapField text value
 IsOctetsOf shown text value = ⊥
 
 -- a word is a field of this kind, and its number is in a form
@@ -90,6 +93,8 @@ IsWord origin way kinds.Ipv6 text value = (a : Ipv6Addr) × IsUtf8 text × IsIpv
 IsWord origin way kinds.TypeCode text value = IsTypeField text value
 IsWord origin way kinds.U48 text value = IsIdentifierField 6 eui48 text value
 IsWord origin way kinds.U64 text value = IsIdentifierField 8 eui64 text value
+IsWord origin way kinds.Locator text value = IsLocatorField text value
+IsWord origin way kinds.NodeNumber text value = IsNodeNumber text value
 IsWord origin way (kinds.Counted shown) text value = AreOctetsOf (SpellsShown shown) counted text value
 IsWord origin way (kinds.Octets shown) text value = IsOctetsOf shown text value
 IsWord origin way kind text value = IsNumberOf way kind text value
@@ -123,7 +128,7 @@ AreList origin lists.Texts left value = AreTexts left value
 AreList origin lists.Types left value = AreTypes left value
 AreList origin lists.Params left value = AreParams left value
 AreList origin lists.Names left value = AreNames origin left value
-AreList origin kind left value = ⊥
+AreList origin lists.Prefixes left value = ArePrefixes left value
 
 -- all words are a field of this kind
 abbrev pub AreAll : Option NameValue → Kind → List ℕ → FieldValue → Type 0
@@ -150,7 +155,9 @@ ReadsThree origin kind left value rest =
 abbrev pub extent_of : Kind → Extent
 extent_of (kinds.Octets Hex) = All
 extent_of (kinds.Octets Base64) = All
-extent_of (kinds.Octets Other) = All
+extent_of (kinds.Octets MaybeBase64) = All
+extent_of (kinds.Octets Ports) = All
+extent_of (kinds.Octets OldTypes) = All
 extent_of (kinds.List list) = All
 extent_of (kinds.Shaped Location) = All
 extent_of (kinds.Shaped Gateway) = Three

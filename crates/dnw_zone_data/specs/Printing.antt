@@ -7,8 +7,8 @@ use Rattle.dnw_base.specs.Decoder.{Decoder}
 use Rattle.dnw_base.specs.Names.{label_wire}
 use Rattle.dnw_base.specs.RecordTypes.{type_text}
 use Rattle.dnw_data.specs.declared.kind.Kind.{Kind}
-use Rattle.dnw_data.specs.declared.kind.Kind.TheVariants.{Counted, Octets, U16, U48, U64}
-use Rattle.dnw_data.specs.declared.kind.Shown.TheVariants.{Text, Tag, Hex, Base32Hex, Base64}
+use Rattle.dnw_data.specs.declared.kind.Kind.TheVariants.{Counted, Octets, U16, U48, U64, Locator, NodeNumber}
+use Rattle.dnw_data.specs.declared.kind.Shown.TheVariants.{Text, Tag, Hex, Base32Hex, Base64, Nsap}
 use Rattle.dnw_data.specs.Values.{FieldValue, name, u8, u16, u32, u48, u64, ipv4, ipv6, type_code, time, counted, octets, texts, types, params}
 use Rattle.dnw_data.specs.Values.{prefixes, names, long_counted, shaped}
 use Rattle.dnw_data.specs.Fields.{TakesField, FailsField}
@@ -23,7 +23,9 @@ use Rattle.dnw_name_text.specs.NameTexts.{full_name_text}
 use Rattle.dnw_zone_data.specs.TypeLists.{PrintsTypes}
 use Rattle.dnw_zone_data.specs.ParamLists.{PrintsParams}
 use Rattle.dnw_zone_data.specs.Gateways.{PrintsShaped}
+use Rattle.dnw_zone_data.specs.Locators.{PrintsLocator, PrintsNsap}
 use Rattle.dnw_zone_data.specs.NameLists.{PrintsNames}
+use Rattle.dnw_zone_data.specs.PrefixLists.{PrintsPrefixes}
 use Rattle.dnw_zone_data.specs.Generic.{hex_part}
 
 -- nothing for no octets
@@ -39,13 +41,16 @@ abbrev pub PrintsU16 : Kind → ℕ → List ℕ → Type 0
 PrintsU16 U16 n text = text ≡ 32 ∷ decimal n
 PrintsU16 kind n text = ⊥
 
--- an identifier of six octets, or of eight; other numbers of so many octets have no text here
+-- an identifier of six octets; a time of so many has no text here
 abbrev pub PrintsU48 : Kind → ℕ → List ℕ → Type 0
 PrintsU48 U48 n text = text ≡ 32 ∷ pairs_text (drop 2 (to_be_bytes w64 n))
 PrintsU48 kind n text = ⊥
 
+-- a number of eight octets: an identifier, one of a node or a locator, or the number of a node
 abbrev pub PrintsU64 : Kind → ℕ → List ℕ → Type 0
 PrintsU64 U64 n text = text ≡ 32 ∷ pairs_text (to_be_bytes w64 n)
+PrintsU64 Locator n text = PrintsLocator n text
+PrintsU64 NodeNumber n text = text ≡ 32 ∷ decimal n
 PrintsU64 kind n text = ⊥
 
 -- octets with a length octet before them
@@ -61,6 +66,7 @@ abbrev pub PrintsOctets : Kind → List ℕ → List ℕ → Type 0
 PrintsOctets (Octets Hex) own text = text ≡ hex_part own
 PrintsOctets (Octets Base64) own text = text ≡ base64_part own
 PrintsOctets (Octets Text) own text = text ≡ 32 ∷ string_text own
+PrintsOctets (Octets Nsap) own text = PrintsNsap own text
 PrintsOctets kind own text = ⊥
 
 -- character strings, each after a space
@@ -91,7 +97,7 @@ Prints kind (octets own) text = PrintsOctets kind own text
 Prints kind (texts items) text = PrintsStrings items.octets text
 Prints kind (types items) text = PrintsTypes items.octets text
 Prints kind (params items) text = PrintsParams items.octets text
-Prints kind (prefixes items) text = ⊥
+Prints kind (prefixes items) text = PrintsPrefixes items.octets text
 Prints kind (names items) text = PrintsNames items.octets text
 Prints kind (long_counted own) text = ⊥
 Prints kind (shaped own) text = PrintsShaped own.shape own.octets text

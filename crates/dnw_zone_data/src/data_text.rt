@@ -27,7 +27,7 @@ use crate::words::{after_spaces, split_word};
 use dnw_base::dns_class::DNSClass;
 use dnw_base::record_type::RecordType;
 use dnw_data::fields::Fields;
-use dnw_data::kind::{Kind, ListKind, Shape, Shown};
+use dnw_data::kind::{Kind, Shape, Shown};
 use dnw_data::table::fields_of;
 use dnw_name::name::Name;
 use dnw_record::record_ref::RecordRef;
@@ -308,7 +308,7 @@ fn is_little_known(record_type: RecordType) -> bool
 {
     matches!(
         u16::from(record_type),
-        19 | 20 | 23 | 27 | 49 | 56..=58 | 66..=68 | 105 | 107 | 258 | 260..=263 | 32768 | 32769
+        19 | 20 | 23 | 27 | 49 | 56..=58 | 66..=68 | 105 | 107 | 258 | 260..=264 | 32768 | 32769
     )
 }
 
@@ -354,12 +354,10 @@ fn has_field_text(kind: Kind) -> bool
     !matches!(
         kind,
         Kind::LongTime
-            | Kind::Locator
             | Kind::ChaosAddress
             | Kind::LongCounted(_)
             | Kind::Shaped(Shape::AddressSuffix)
-            | Kind::Octets(Shown::Other)
-            | Kind::List(ListKind::Prefixes)
+            | Kind::Octets(Shown::MaybeBase64 | Shown::Ports | Shown::OldTypes)
     )
 }
 

@@ -97,6 +97,18 @@ pub enum Wanted {
     /// The algorithm of a host identity, its tag and its key.
     #[error("an algorithm, a tag in hexadecimal, and a key in base 64")]
     HostIdentity,
+    /// An identifier of a node, or a locator, of eight octets.
+    #[error("four groups of hexadecimal digits with colons between them")]
+    Locator,
+    /// A number of eight octets, in decimal.
+    #[error("a number of at most 18446744073709551615")]
+    NodeNumber,
+    /// Octets in hexadecimal after `0x`.
+    #[error("`0x` and octets in hexadecimal")]
+    Nsap,
+    /// Address prefixes up to the end.
+    #[error("address prefixes, each as 1:192.0.2.0/24")]
+    Prefixes,
     /// The form that any data have, which begins with `\#`: the type has no other.
     #[error("the form of any data, which begins with \\#")]
     Generic,
@@ -167,6 +179,9 @@ pub(crate) fn wanted_of(form: NumberForm, kind: Kind) -> Wanted
         Kind::List(ListKind::Types) => Wanted::Types,
         Kind::List(ListKind::Params) => Wanted::Params,
         Kind::List(ListKind::Names) => Wanted::Names,
+        Kind::List(ListKind::Prefixes) => Wanted::Prefixes,
+        Kind::Locator => Wanted::Locator,
+        Kind::NodeNumber => Wanted::NodeNumber,
         Kind::Shaped(Shape::Location) => Wanted::Location,
         Kind::Shaped(Shape::Gateway) => Wanted::Gateway,
         Kind::Shaped(Shape::Relay) => Wanted::Relay,
@@ -196,6 +211,7 @@ fn octets_wanted(shown: Shown) -> Wanted
         Shown::Text => Wanted::Text,
         Shown::Hex => Wanted::Hexadecimal,
         Shown::Base64 => Wanted::Base64,
-        Shown::Tag | Shown::Base32Hex | Shown::Other => Wanted::Generic,
+        Shown::Nsap => Wanted::Nsap,
+        _ => Wanted::Generic,
     }
 }

@@ -20,7 +20,8 @@ pub(crate) fn extent_of(kind: Kind) -> Extent
     ensures { result ≡ extent_of kind }
 {
     match kind {
-        Kind::Octets(Shown::Hex | Shown::Base64 | Shown::Other)
+        Kind::Octets(Shown::Hex | Shown::Base64 | Shown::MaybeBase64)
+        | Kind::Octets(Shown::Ports | Shown::OldTypes)
         | Kind::List(_)
         | Kind::Shaped(Shape::Location) => Extent::All,
         Kind::Shaped(Shape::Gateway | Shape::Relay | Shape::HostIdentity) => Extent::Three,

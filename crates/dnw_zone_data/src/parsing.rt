@@ -12,10 +12,12 @@ ghost use Rattle.dnw_zone_data.specs.Appending.{AppendsOne};
 use crate::error::{DataTextError, Wanted, wanted_of};
 use crate::extent::{Extent, extent_of};
 use crate::gateways::{parse_shape, parse_whole};
+use crate::locators::{parse_locator, parse_node_number, parse_nsap};
 use crate::name::append_name;
 use crate::name_lists::parse_names;
 use crate::number_form::{NumberForm, next_form, u8_in, u16_in, u32_in};
 use crate::params::parse_params;
+use crate::prefixes::parse_prefixes;
 use crate::spelling::{pairs_of, push_octets, push_spelled, push_string, push_text};
 use crate::types::{parse_type, parse_types};
 use crate::words::{after_spaces, has_no_spaces, split_word, without_spaces};
@@ -215,7 +217,7 @@ fn parse_list(
         ListKind::Types => parse_types(alloc, left, out),
         ListKind::Params => parse_params(alloc, left, out),
         ListKind::Names => parse_names(alloc, left, origin, out),
-        ListKind::Prefixes => Ok(false),
+        ListKind::Prefixes => parse_prefixes(left, out),
     }
 }
 
@@ -258,7 +260,7 @@ fn parse_word(
         return parse_counted(shown, word, out);
     }
     if let Kind::Octets(shown) = kind {
-        return parse_octets(shown, word, out);
+        return parse_octets(alloc, shown, word, out);
     }
     let Ok(text) = str::from_utf8(word) else {
         return Ok(false);
@@ -277,6 +279,8 @@ fn parse_word(
             out.extend_from_slice(&address.octets())?;
         }
         Kind::TypeCode => return parse_type(word, out),
+        Kind::Locator => return parse_locator(text, out),
+        Kind::NodeNumber => return parse_node_number(text, out),
         Kind::U48 => return parse_eui48(alloc, text, out),
         Kind::U64 => return parse_eui64(alloc, text, out),
         _ => return parse_number(form, kind, text, out),
@@ -380,13 +384,19 @@ fn put_len(out: &mut Vec<u8>, start: usize)
     out.as_mut_slice()[start] = len as u8;
 }
 
-/// Appends the octets of a text that is one word. Returns `false` if it is none.
-fn parse_octets(shown: Shown, word: &[u8], out: &mut Vec<u8>) -> Result<bool, AllocError>
+/// Appends the octets up to the end that are one word. Returns `false` if it is none.
+fn parse_octets(
+    alloc: Global,
+    shown: Shown,
+    word: &[u8],
+    out: &mut Vec<u8>,
+) -> Result<bool, AllocError>
     ensures { IfOk result (AppendsOne (IsOctetsOf shown word.now) out.old.items out.new.items) }
 {
     match shown {
         Shown::Text => parse_text(word, out),
-        Shown::Tag | Shown::Hex | Shown::Base32Hex | Shown::Base64 | Shown::Other => Ok(false),
+        Shown::Nsap => parse_nsap(alloc, word, out),
+        _ => Ok(false),
     }
 }
 

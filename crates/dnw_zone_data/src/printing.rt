@@ -11,11 +11,14 @@ use crate::gateways::write_shaped;
 use crate::name::write_name;
 use crate::name_lists::write_names;
 use crate::params::write_param_list;
+use crate::prefixes::write_prefixes;
 use crate::types::write_types;
 use dnw_data::field::Field;
 use dnw_data::fields::Fields;
 use dnw_data::kind::{Kind, Shown};
 use dnw_zone_values::base32::Base32Hex;
+use dnw_zone_values::locator::Locator;
+use dnw_zone_values::nsap::Nsap;
 use dnw_zone_values::octets::{Base64, Hexadecimal, Salt};
 use dnw_zone_values::pairs::Pairs;
 use dnw_zone_values::string::CharacterString;
@@ -94,7 +97,8 @@ fn write_field(
         Field::Params(items) => return write_param_list(alloc, items.as_bytes(), out),
         Field::Names(items) => return write_names(items.as_bytes(), out),
         Field::Shaped(own) => return write_shaped(alloc, own.shape(), own.as_bytes(), out),
-        Field::Prefixes(_) | Field::LongCounted(_) => return Ok(false),
+        Field::Prefixes(items) => return write_prefixes(items.as_bytes(), out),
+        Field::LongCounted(_) => return Ok(false),
     }
     Ok(true)
 }
@@ -121,12 +125,14 @@ fn write_u48(kind: Kind, number: u64, out: &mut String) -> Result<bool, AllocErr
     Ok(true)
 }
 
-/// Appends the text of an identifier of eight octets. Returns `false` if the number is no identifier.
+/// Appends the text of a number of eight octets. Returns `false` if it has none.
 fn write_u64(kind: Kind, number: u64, out: &mut String) -> Result<bool, AllocError>
     ensures { IfOk result (Appended (PrintsU64 kind number) (string_bytes out.old) (string_bytes out.new)) }
 {
     match kind {
         Kind::U64 => write!(out, " {}", Pairs(&number.to_be_bytes()))?,
+        Kind::Locator => write!(out, " {}", Locator(number))?,
+        Kind::NodeNumber => write!(out, " {number}")?,
         _ => return Ok(false),
     }
     Ok(true)
@@ -177,6 +183,7 @@ fn write_octets(kind: Kind, octets: &[u8], out: &mut String) -> Result<bool, All
         Kind::Octets(Shown::Hex) if !octets.is_empty() => write!(out, " {}", Hexadecimal(octets))?,
         Kind::Octets(Shown::Base64) if !octets.is_empty() => write!(out, " {}", Base64(octets))?,
         Kind::Octets(Shown::Hex | Shown::Base64) => {}
+        Kind::Octets(Shown::Nsap) => write!(out, " {}", Nsap(octets))?,
         _ => return Ok(false),
     }
     Ok(true)

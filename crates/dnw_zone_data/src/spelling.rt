@@ -27,7 +27,7 @@ pub(crate) fn push_spelled(shown: Shown, word: &[u8], out: &mut Vec<u8>) -> Resu
         Shown::Tag => push_tag(word, out),
         Shown::Hex => push_salt(word, out),
         Shown::Base32Hex => push_hash(word, out),
-        Shown::Base64 | Shown::Other => Ok(false),
+        _ => Ok(false),
     }
 }
 
@@ -109,7 +109,7 @@ pub(crate) fn push_octets(shown: Shown, text: &[u8], out: &mut Vec<u8>) -> Resul
     match shown {
         Shown::Hex => push_hexadecimal(text, out),
         Shown::Base64 => push_base64(text, out),
-        Shown::Text | Shown::Tag | Shown::Base32Hex | Shown::Other => Ok(false),
+        _ => Ok(false),
     }
 }
 

@@ -15,11 +15,11 @@ use Rattle.dnw_data.proofs.Codes.{code_back}
 use Rattle.dnw_data.proofs.Taking.{moves_on}
 use Rattle.dnw_data.specs.Fields.{own_at, size_at, TakesField}
 use Rattle.dnw_data.specs.TypeSets.{octets_codes}
-use Rattle.dnw_data.specs.Values.{FieldValue, name, u16, u48, u64, counted, octets, long_counted, shaped, prefixes, names, items}
+use Rattle.dnw_data.specs.Values.{FieldValue, name, u16, u48, u64, counted, octets, long_counted, shaped, names, items}
 use Rattle.dnw_data.specs.declared.kind.Kind.{Kind}
 use Rattle.dnw_data.specs.declared.kind.Kind.TheVariants as kinds
 use Rattle.dnw_data.specs.declared.kind.ListKind.TheVariants as lists
-use Rattle.dnw_data.specs.declared.kind.Shown.TheVariants.{Text, Tag, Hex, Base32Hex, Base64, Other}
+use Rattle.dnw_data.specs.declared.kind.Shown.TheVariants.{Text, Tag, Hex, Base32Hex, Base64, MaybeBase64, Nsap, Ports, OldTypes}
 use Rattle.dnw_name_read.specs.ReadingLaws.{AreBytes}
 use Rattle.dnw_name_text.specs.NameTexts.{full_name_text}
 use Rattle.dnw_record.specs.RecordFields.{record_fields}
@@ -28,6 +28,7 @@ use Rattle.dnw_base.specs.Limits.{max_data}
 use Rattle.dnw_zone_values.proofs.Identifiers.{hash}
 use Rattle.dnw_zone_values.specs.Base32.{base32_text, is_base32}
 use Rattle.dnw_zone_values.specs.Octets.{IsOctets, salt_text}
+use Rattle.dnw_zone_values.specs.Prefixes.{prefix_text}
 use Rattle.dnw_zone_values.specs.Pairs.{lower_digit, pairs_text}
 use Rattle.dnw_zone_values.specs.Strings.{string_text}
 use Rattle.dnw_zone_values.specs.Params.{ParamValue}
@@ -36,11 +37,14 @@ use Rattle.dnw_zone_values.proofs.ParamTextsBack.{IsShaped, bare_open, base64_op
 use Rattle.dnw_zone_data.specs.DataTexts.{IsDataText, IsPlainData, without_space}
 use Rattle.dnw_zone_data.specs.Generic.{generic_text, hex_part}
 use Rattle.dnw_zone_data.specs.Printing.{Prints, PrintsFields, base64_part, strings_text}
+use Rattle.dnw_zone_data.specs.PrefixLists.{prefix_size, prefixes_within}
 use Rattle.dnw_zone_data.specs.TypeLists.{code_text, codes_text, codes_within, is_window}
 use Rattle.dnw_zone_data.proofs.CodesWithin.{Within, octets_within}
 use Rattle.dnw_zone_data.proofs.DataBack.{data_fit}
 use Rattle.dnw_zone_data.proofs.FieldValues.{counted_fit, labels_fit}
 use Rattle.dnw_zone_data.proofs.FieldsBack.{dotted, first, type_plain}
+use Rattle.dnw_zone_data.proofs.LocatorsBack.{locator_plain, nsap_plain}
+use Rattle.dnw_zone_data.proofs.PrefixListsBack.{prefix_plain, spaced_parts}
 use Rattle.dnw_zone_data.proofs.Plain.{all_plain, decimal_plain, hex_plain, is_plain, plain_by_tests}
 use Rattle.dnw_zone_data.proofs.WordsBack.{eight_fit, six_fit}
 use Rattle.dnw_zone_record.specs.RecordLines.{spaced}
@@ -169,6 +173,23 @@ params_kept (suc m) (a ∷ b ∷ c ∷ d ∷ left) text h print =
           subst (λ (t : List ℕ). Keeps Words t Words) (sym e) both
     ]
 
+-- ---- prefixes
+
+prefixes_kept : (n : ℕ) (own text : List ℕ) → IsOctets own → prefixes_within n own ≡ Some text → Keeps Words text Words
+prefixes_kept n [] text h print = let none : [] ≡ text = cc in subst (λ (t : List ℕ). Keeps Words t Words) none (keeps_none Words)
+prefixes_kept zero (o ∷ own) text h print = absurd cc
+prefixes_kept (suc n) (o ∷ own) text h print =
+    let all = o ∷ own in
+    let size = prefix_size all in
+    elim (cases_Bool (nat_le size (length all))) [
+      | inr other ↦ let wrong = rw other at print in absurd cc
+      | inl fits ↦
+          let (x, y, first, others, e) = spaced_parts (prefix_text (take size all)) (prefixes_within n (drop size all)) text (rw fits at print) in
+          let (plain, some) = prefix_plain (take size all) x (take_fit size all h) first in
+          let both = keeps_both (32 ∷ x) y Words Words Words (keeps_spaced x (keeps_plain x plain)) (prefixes_kept n (drop size all) y (drop_fit size all h) others) in
+          subst (λ (t : List ℕ). Keeps Words t Words) e both
+    ]
+
 -- ---- fields
 
 own_fit : (kind : Kind) (d : Decoder) → AreBytes d.bytes → IsOctets (own_at kind d)
@@ -229,14 +250,25 @@ field_kept (kinds.Counted Base32Hex) d value after text h takes print =
     (λ p. let (some, e) = p in kept_by text (base32_text own) e (keeps_plain (base32_text own) (hash_plain (base32_text own) (hash own (is.0, some, is.1)).0.0)))
 field_kept (kinds.Counted Base64) d value after text h takes print =
     by_none (kinds.Counted Base64) value (counted (drop 1 (own_at (kinds.Counted Base64) d))) text takes.2 print (λ p. p)
-field_kept (kinds.Counted Other) d value after text h takes print =
-    by_none (kinds.Counted Other) value (counted (drop 1 (own_at (kinds.Counted Other) d))) text takes.2 print (λ p. p)
+field_kept (kinds.Counted MaybeBase64) d value after text h takes print =
+    by_none (kinds.Counted MaybeBase64) value (counted (drop 1 (own_at (kinds.Counted MaybeBase64) d))) text takes.2 print (λ p. p)
+field_kept (kinds.Counted Nsap) d value after text h takes print =
+    by_none (kinds.Counted Nsap) value (counted (drop 1 (own_at (kinds.Counted Nsap) d))) text takes.2 print (λ p. p)
+field_kept (kinds.Counted Ports) d value after text h takes print =
+    by_none (kinds.Counted Ports) value (counted (drop 1 (own_at (kinds.Counted Ports) d))) text takes.2 print (λ p. p)
+field_kept (kinds.Counted OldTypes) d value after text h takes print =
+    by_none (kinds.Counted OldTypes) value (counted (drop 1 (own_at (kinds.Counted OldTypes) d))) text takes.2 print (λ p. p)
 field_kept kinds.LongTime d value after text h takes print =
     by_none kinds.LongTime value (u48 (from_be_bytes w64 (0 ∷ 0 ∷ own_at kinds.LongTime d))) text takes.2 print (λ p. p)
 field_kept kinds.ChaosAddress d value after text h takes print =
     by_none kinds.ChaosAddress value (u16 (from_be_bytes w16 (own_at kinds.ChaosAddress d))) text takes.2 print (λ p. p)
 field_kept kinds.Locator d value after text h takes print =
-    by_none kinds.Locator value (u64 (from_be_bytes w64 (own_at kinds.Locator d))) text takes.2 print (λ p. p)
+    let fit = own_fit kinds.Locator d h in
+    by_value kinds.Locator value _ text takes.2 print
+    (λ p. kept_by text _ p (keeps_plain _ (locator_plain _ (omega (arith, fit 0, fit 1, fit 2, fit 3, fit 4, fit 5, fit 6, fit 7)))))
+field_kept kinds.NodeNumber d value after text h takes print =
+    let fit = own_fit kinds.NodeNumber d h in
+    by_value kinds.NodeNumber value _ text takes.2 print (number_kept _ text (omega (arith, fit 0, fit 1, fit 2, fit 3, fit 4, fit 5, fit 6, fit 7)))
 field_kept (kinds.LongCounted shown) d value after text h takes print =
     by_none (kinds.LongCounted shown) value (long_counted (drop 2 (own_at (kinds.LongCounted shown) d))) text takes.2 print (λ p. p)
 field_kept (kinds.Shaped shape) d value after text h takes print =
@@ -251,10 +283,17 @@ field_kept (kinds.Octets Tag) d value after text h takes print =
     by_none (kinds.Octets Tag) value (octets (own_at (kinds.Octets Tag) d)) text takes.2 print (λ p. p)
 field_kept (kinds.Octets Base32Hex) d value after text h takes print =
     by_none (kinds.Octets Base32Hex) value (octets (own_at (kinds.Octets Base32Hex) d)) text takes.2 print (λ p. p)
-field_kept (kinds.Octets Other) d value after text h takes print =
-    by_none (kinds.Octets Other) value (octets (own_at (kinds.Octets Other) d)) text takes.2 print (λ p. p)
+field_kept (kinds.Octets MaybeBase64) d value after text h takes print =
+    by_none (kinds.Octets MaybeBase64) value (octets (own_at (kinds.Octets MaybeBase64) d)) text takes.2 print (λ p. p)
+field_kept (kinds.Octets Nsap) d value after text h takes print =
+    by_value (kinds.Octets Nsap) value _ text takes.2 print (λ p. kept_by text _ p (keeps_plain _ (nsap_plain _ (own_fit (kinds.Octets Nsap) d h))))
+field_kept (kinds.Octets Ports) d value after text h takes print =
+    by_none (kinds.Octets Ports) value (octets (own_at (kinds.Octets Ports) d)) text takes.2 print (λ p. p)
+field_kept (kinds.Octets OldTypes) d value after text h takes print =
+    by_none (kinds.Octets OldTypes) value (octets (own_at (kinds.Octets OldTypes) d)) text takes.2 print (λ p. p)
 field_kept (kinds.List lists.Prefixes) d value after text h takes print =
-    by_none (kinds.List lists.Prefixes) value (prefixes (items lists.Prefixes (own_at (kinds.List lists.Prefixes) d))) text takes.2 print (λ p. p)
+    let own = own_at (kinds.List lists.Prefixes) d in
+    by_value (kinds.List lists.Prefixes) value _ text takes.2 print (λ p. prefixes_kept (length own) own text (own_fit (kinds.List lists.Prefixes) d h) p)
 field_kept (kinds.List lists.Names) d value after text h takes print =
     by_none (kinds.List lists.Names) value (names (items lists.Names (own_at (kinds.List lists.Names) d))) text takes.2 print (λ p. p)
 field_kept (kinds.List lists.Texts) d value after text h takes print =

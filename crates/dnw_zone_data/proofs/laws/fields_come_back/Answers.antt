@@ -1,3 +1,4 @@
+use Rattle.dnw_zone_data.proofs.ListedBack.{locator_field, node_field, nsap_field, prefixes_field}
 use Rattle.dnw_zone_data.proofs.FieldsBack.{u8_back, u16_back, u32_back, time_back, type_back, ipv4_back, string_back, tag_back, salt_back, hash_back, octets_back, text_back, strings_back}
 use Rattle.dnw_zone_data.proofs.GatewaysBack.{shaped_back}
 use Rattle.dnw_zone_data.proofs.NameListsBack.{names_back}
@@ -42,3 +43,9 @@ returns-clause-shapes c = shaped_back
 
 pub returns-clause-names_in_lists : goal.returns-clause-names_in_lists
 returns-clause-names_in_lists c = names_back
+
+pub returns-clause-locators : goal.returns-clause-locators
+returns-clause-locators c = (locator_field, node_field, nsap_field)
+
+pub returns-clause-prefixes : goal.returns-clause-prefixes
+returns-clause-prefixes c = prefixes_field

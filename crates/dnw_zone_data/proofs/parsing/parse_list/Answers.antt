@@ -11,3 +11,6 @@ returns-in-Params c = rw c.in-Params.is c.parse_params.ensures
 
 pub returns-in-Names : goal.returns-in-Names
 returns-in-Names c = rw c.in-Names.is c.parse_names.ensures
+
+pub returns-in-Prefixes : goal.returns-in-Prefixes
+returns-in-Prefixes c = rw c.in-Prefixes.is c.parse_prefixes.ensures

@@ -2,6 +2,7 @@ use Rattle.std.proofs.Common.{List, ℕ, ◌++◌, IfOk, refl, sym, ap, ◌∙�
 use Rattle.std.specs.Net.Addr.{ipv4_octets, ipv6_segments}
 use Rattle.std.specs.Net.Grammar.{IsIpv4Text, IsIpv6Text}
 use Rattle.dnw_data.specs.Values.{ipv4, ipv6}
+use Rattle.dnw_zone_data.specs.Locators.{IsLocatorField, IsNodeNumber}
 use Rattle.dnw_zone_data.specs.Parsing.{IsNumberOf, IsIdentifierField, eui48, eui64}
 use Rattle.std.specs.Option.{option_copied}
 use Rattle.dnw_zone_data.proofs.NumberKinds.{as_number}
@@ -35,11 +36,21 @@ returns-in-U64 c =
     let Is : List ℕ → Type 0 = λ t. IfOk c.parse_eui64.result (AppendsOne (IsIdentifierField 8 eui64 t) c.args.out.now.items c.parse_eui64.new.out.items) in
     rw c.in-U64.is (subst Is c.in-Ok.ensures.cases.0 c.parse_eui64.ensures)
 
+pub returns-in-Locator : goal.returns-in-Locator
+returns-in-Locator c =
+    let Is : List ℕ → Type 0 = λ t. IfOk c.parse_locator.result (AppendsOne (IsLocatorField t) c.args.out.now.items c.parse_locator.new.out.items) in
+    rw c.in-Locator.is (subst Is c.in-Ok.ensures.cases.0 c.parse_locator.ensures)
+
+pub returns-in-NodeNumber : goal.returns-in-NodeNumber
+returns-in-NodeNumber c =
+    let Is : List ℕ → Type 0 = λ t. IfOk c.parse_node_number.result (AppendsOne (IsNodeNumber t) c.args.out.now.items c.parse_node_number.new.out.items) in
+    rw c.in-NodeNumber.is (subst Is c.in-Ok.ensures.cases.0 c.parse_node_number.ensures)
+
 pub returns-in_default-kind-3 : goal.returns-in_default-kind-3
 returns-in_default-kind-3 c =
     let Is : List ℕ → Type 0 = λ t. IfOk c.parse_number.result (AppendsOne (IsNumberOf c.args.form c.args.kind t) c.args.out.now.items c.parse_number.new.out.items) in
     let no = c.in_default-kind-3 in
-    as_number (option_copied c.args.origin) c.args.form c.args.kind c.args.word.now c.args.out.now.items c.parse_number.new.out.items c.parse_number.result c.in_default.not-Name no.not-Ipv4 no.not-Ipv6 no.not-TypeCode no.not-U48 no.not-U64 c.in_default-kind.not-Counted c.in_default-kind-2.not-Octets (subst Is c.in-Ok.ensures.cases.0 c.parse_number.ensures)
+    as_number (option_copied c.args.origin) c.args.form c.args.kind c.args.word.now c.args.out.now.items c.parse_number.new.out.items c.parse_number.result c.in_default.not-Name no.not-Ipv4 no.not-Ipv6 no.not-TypeCode no.not-U48 no.not-U64 no.not-Locator no.not-NodeNumber c.in_default-kind.not-Counted c.in_default-kind-2.not-Octets (subst Is c.in-Ok.ensures.cases.0 c.parse_number.ensures)
 
 pub returns-in_ok-extend_from_slice-in-Ipv4 : goal.returns-in_ok-extend_from_slice-in-Ipv4
 returns-in_ok-extend_from_slice-in-Ipv4 c =

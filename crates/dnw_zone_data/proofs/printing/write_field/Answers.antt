@@ -5,6 +5,7 @@ use Rattle.dnw_zone_data.specs.Appending.{Appended}
 use Rattle.dnw_zone_data.specs.TypeLists.{PrintsTypes}
 use Rattle.dnw_zone_data.specs.NameLists.{PrintsNames}
 use Rattle.dnw_zone_data.specs.ParamLists.{PrintsParams}
+use Rattle.dnw_zone_data.specs.PrefixLists.{PrintsPrefixes}
 use Rattle.dnw_zone_data.proofs.printing.write_field.Goals as goal
 
 pub returns-in-Texts : goal.returns-in-Texts
@@ -26,3 +27,8 @@ pub returns-in-Names : goal.returns-in-Names
 returns-in-Names c =
     let Is : List ℕ → Type 0 = λ own. IfOk c.write_names.result (Appended (PrintsNames own) (string_bytes c.args.out.now) (string_bytes c.write_names.new.out)) in
     rw c.in-Names.is (subst Is c.as_bytes-in-Names.ensures.octets c.write_names.ensures)
+
+pub returns-in-Prefixes : goal.returns-in-Prefixes
+returns-in-Prefixes c =
+    let Is : List ℕ → Type 0 = λ own. IfOk c.write_prefixes.result (Appended (PrintsPrefixes own) (string_bytes c.args.out.now) (string_bytes c.write_prefixes.new.out)) in
+    rw c.in-Prefixes.is (subst Is c.as_bytes-in-Prefixes.ensures.octets c.write_prefixes.ensures)
