@@ -60,7 +60,8 @@ REFUSED = {"bind": {"MD", "MF"}, "knot": set(), "powerdns": set()}
 
 # The types whose data have a text of their own here. Those of the others are shown as RFC 3597 does.
 TEXTS = set("""A NS MD MF CNAME SOA MB MG MR PTR HINFO MINFO MX TXT RP AFSDB RT PX SIG KEY AAAA SRV NAPTR KX CERT DNAME DS SSHFP
-    RRSIG DNSKEY NSEC3PARAM TLSA SMIMEA CDS CDNSKEY OPENPGPKEY ZONEMD SPF URI CAA NSEC NSEC3 CSYNC EUI48 EUI64 SVCB HTTPS IPSECKEY HIP LOC""".split())
+    RRSIG DNSKEY NSEC3PARAM TLSA SMIMEA CDS CDNSKEY OPENPGPKEY ZONEMD SPF URI CAA NSEC NSEC3 CSYNC EUI48 EUI64 SVCB HTTPS IPSECKEY HIP LOC APL NID L64
+    NSAP""".split())
 
 # Those whose letters are hexadecimal digits, which dnspython has in lower case.
 HEXADECIMAL = {"DS", "CDS", "SSHFP", "TLSA", "SMIMEA", "ZONEMD", "NSEC3PARAM"}
@@ -103,6 +104,10 @@ def data_text(record):
     if kind in ("SVCB", "HTTPS"):
         # dnspython has quotes around each value; BIND, as here, around those of any octets alone
         return re.sub(r'\b(mandatory|port|ipv[46]hint|ech)="([^"]*)"', r"\1=\2", record.to_text())
+    if kind in ("APL", "NID", "L64", "NSAP"):
+        # of the octets: dnspython keeps the words of a text that it parsed
+        octets = record.to_wire()
+        return dns.rdata.from_wire(record.rdclass, record.rdtype, octets, 0, len(octets)).to_text() or "\\# 0"
     if kind in TEXTS and not isinstance(record, dns.rdata.GenericRdata):
         text = record.to_text(chunksize=0)
         return text.upper() if kind in HEXADECIMAL else text

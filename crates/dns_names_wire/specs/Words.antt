@@ -134,6 +134,9 @@ pub use Rattle.dnw_zone_values.specs.Octets.{IsBase64Text, IsHexText, IsOctets, 
 pub use Rattle.dnw_zone_values.specs.Spelling.{Appends, ComesBack}
 pub use Rattle.dnw_zone_values.specs.Base32.{IsHash, IsHashText, base32_octets, base32_text, base32_value, is_base32}
 pub use Rattle.dnw_zone_values.specs.Pairs.{IsIdentifier, IsPairsText, pairs_octets, pairs_text}
+pub use Rattle.dnw_zone_values.specs.Prefixes.{IsPrefixText, PrefixesAreUnambiguous, PrefixesComeBack, prefix_text}
+pub use Rattle.dnw_zone_values.specs.Locators.{IsLocatorText, locator_text}
+pub use Rattle.dnw_zone_values.specs.Nsap.{IsNsapText, nsap_text}
 pub use Rattle.dnw_zone_values.specs.Strings.{IsLongText, IsString, IsStringText, IsText, IsTextWithin, Plain, octet_text}
 pub use Rattle.dnw_zone_values.specs.Strings.{octets_from, quote, string_octets, string_text}
 pub use Rattle.dnw_zone_values.specs.Tags.{IsTag, IsTagText}
@@ -154,7 +157,7 @@ pub use Rattle.dnw_zone_values.specs.ParamTexts.{param_text, params_text}
 pub use Rattle.dnw_zone_values.specs.Mandatory.{keeps_mandatory}
 pub use Rattle.dnw_zone_values.specs.ParamWords.{IsParam}
 pub use Rattle.dnw_zone_values.specs.ParamLaws.{IsParamValue, ParamsComeBack}
-pub use Rattle.dnw_zone_data.specs.DataTextLaws.{FieldAddressesComeBack, CountedComeBack, FieldIdentifiersComeBack, FieldNamesComeBack, NumbersComeBack, OctetsComeBack, SegmentsComeBack, StringsComeBack, TypesComeBack}
+pub use Rattle.dnw_zone_data.specs.DataTextLaws.{FieldAddressesComeBack, CountedComeBack, FieldIdentifiersComeBack, FieldLocatorsComeBack, FieldNamesComeBack, FieldPrefixesComeBack, NumbersComeBack, OctetsComeBack, SegmentsComeBack, StringsComeBack, TypesComeBack}
 pub use Rattle.dnw_zone_data.specs.DataTextLaws.{DataAreUnambiguous, DataComeBack, GenericComesBack, GenericIsParsed, ListsComeBack, PrintedDataAreSame, TextsAreParsed, IsFieldReadBack, FieldComesBack, FollowsField, IsReadType, IsDataOctets}
 pub use Rattle.dnw_zone_record.specs.RecordTextLaws.{LinesAreUnambiguous, LinesComeBack, PrintedLinesAreSame, line_head}
 -- Zone files, read and written.

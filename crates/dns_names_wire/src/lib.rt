@@ -112,18 +112,21 @@ pub mod error {
     pub use dnw_zone_lexer::errors::{LexerError, ParseError, ParseResult};
 }
 
-/// Texts of single values in master files: numbers, octets, times, addresses, character strings, tags, hashed names and
-/// identifiers of hardware.
+/// Texts of single values in master files: numbers, octets, times, addresses and their prefixes, character strings, tags, hashed
+/// names, identifiers of hardware and of nodes, and addresses of NSAP.
 pub mod field_text {
     pub use dnw_zone_values::address::{parse_ipv4, parse_ipv6};
     pub use dnw_zone_values::base32::{Base32Hex, parse_hash};
     pub use dnw_zone_values::error::FieldTextError;
     pub use dnw_zone_values::laws;
+    pub use dnw_zone_values::locator::{Locator, parse_locator};
+    pub use dnw_zone_values::nsap::{Nsap, parse_nsap};
     pub use dnw_zone_values::number::{parse_u8, parse_u16, parse_u32, parse_u48};
     pub use dnw_zone_values::octets::{
         Base64, Hexadecimal, Salt, parse_base64, parse_hexadecimal, parse_salt,
     };
     pub use dnw_zone_values::pairs::{Pairs, parse_pairs};
+    pub use dnw_zone_values::prefix::{parse_prefix, write_prefix};
     pub use dnw_zone_values::string::{CharacterString, parse_string, parse_text};
     pub use dnw_zone_values::tag::{parse_tag, tag_text};
     pub use dnw_zone_values::time::{parse_time, time_text};

@@ -1,10 +1,10 @@
 //! The texts of single values of fields, with the values of the RFCs.
 
 use dns_names_wire::field_text::{
-    Base32Hex, Base64, CharacterString, FieldTextError, Hexadecimal, Pairs, Salt, parse_base64,
-    parse_hash, parse_hexadecimal, parse_ipv4, parse_ipv6, parse_pairs, parse_salt, parse_string,
-    parse_tag, parse_text, parse_time, parse_u8, parse_u16, parse_u32, parse_u48, tag_text,
-    time_text,
+    Base32Hex, Base64, CharacterString, FieldTextError, Hexadecimal, Locator, Nsap, Pairs, Salt,
+    parse_base64, parse_hash, parse_hexadecimal, parse_ipv4, parse_ipv6, parse_locator, parse_nsap,
+    parse_pairs, parse_prefix, parse_salt, parse_string, parse_tag, parse_text, parse_time,
+    parse_u8, parse_u16, parse_u32, parse_u48, tag_text, time_text, write_prefix,
 };
 use std::net::Ipv4Addr;
 use std::test::Fail;
@@ -122,6 +122,100 @@ fn identifiers_are_printed_and_parsed(rt: HostRuntime) -> Result<(), Fail> {
             Err(FieldTextError::Pairs)
         );
         assert_eq!(rt; unchanged.as_slice(), b"x".as_slice());
+    }
+    Ok(())
+}
+
+/// RFC 3123, sections 4 and 5.
+#[test]
+fn prefixes_are_printed_and_parsed(rt: HostRuntime) -> Result<(), Fail> {
+    let rows = [
+        (
+            "1:192.168.32.0/21",
+            b"\x00\x01\x15\x03\xc0\xa8\x20".as_slice(),
+        ),
+        (
+            "!1:192.168.38.0/28",
+            b"\x00\x01\x1c\x83\xc0\xa8\x26".as_slice(),
+        ),
+        ("2:ff00::/8", b"\x00\x02\x08\x01\xff".as_slice()),
+        ("1:0.0.0.0/0", b"\x00\x01\x00\x00".as_slice()),
+    ];
+    for (text, octets) in rows {
+        let alloc = rt.alloc();
+        let mut shown = String::new(alloc);
+        assert_eq!(rt; write_prefix(octets, &mut shown)?, true);
+        assert_eq!(rt; shown.as_str(), text);
+        let mut parsed = Vec::new(alloc);
+        parse_prefix(text.as_bytes(), &mut parsed)?;
+        assert_eq!(rt; parsed.as_slice(), octets);
+    }
+    let mut unchanged = Vec::from_slice(rt.alloc(), b"x")?;
+    let none = [
+        "",
+        "1",
+        "1:192.0.2.0",
+        "1:192.0.2.0/33",
+        "2:::/129",
+        "3:::/0",
+        "!!1:0.0.0.0/0",
+        "1:/0",
+    ];
+    for text in none {
+        assert_eq!(rt;
+            parse_prefix(text.as_bytes(), &mut unchanged),
+            Err(FieldTextError::Prefix)
+        );
+        assert_eq!(rt; unchanged.as_slice(), b"x".as_slice());
+    }
+    let mut nothing = String::new(rt.alloc());
+    assert_eq!(rt; write_prefix(b"\x00\x03\x08\x00", &mut nothing)?, false);
+    assert_eq!(rt; write_prefix(b"\x00\x01\x08\x01\x00", &mut nothing)?, false);
+    assert_eq!(rt; nothing.as_str(), "");
+    Ok(())
+}
+
+/// RFC 6742, section 2.1.2, and RFC 1706, section 5.
+#[test]
+fn locators_and_nsap_are_printed_and_parsed(rt: HostRuntime) -> Result<(), Fail> {
+    let alloc = rt.alloc();
+    let node = 0x0014_4fff_ff20_ee64;
+    assert_eq!(rt;
+        format!(in alloc; "{}", Locator(node))?.as_str(),
+        "0014:4fff:ff20:ee64"
+    );
+    for text in ["0014:4fff:ff20:ee64", "14:4FFF:ff20:ee64"] {
+        assert_eq!(rt; parse_locator(text.as_bytes())?, node);
+    }
+    for text in [
+        "",
+        "1:2:3",
+        "1:2:3:4:5",
+        "1::3:4",
+        "12345:2:3:4",
+        "1:2:3:g",
+        "+1:2:3:4",
+    ] {
+        assert_eq!(rt;
+            parse_locator(text.as_bytes()),
+            Err(FieldTextError::Locator)
+        );
+    }
+    let mut octets = Vec::new(alloc);
+    parse_nsap(alloc, b"0x47.0005.80.005A00", &mut octets)?;
+    assert_eq!(rt;
+        octets.as_slice(),
+        b"\x47\x00\x05\x80\x00\x5a\x00".as_slice()
+    );
+    assert_eq!(rt;
+        format!(in alloc; "{}", Nsap(octets.as_slice()))?.as_str(),
+        "0x47000580005a00"
+    );
+    for text in ["", "47", "0X47", "0x4", "0x47+00"] {
+        assert_eq!(rt;
+            parse_nsap(alloc, text.as_bytes(), &mut octets),
+            Err(FieldTextError::Nsap)
+        );
     }
     Ok(())
 }
