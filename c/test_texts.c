@@ -281,8 +281,8 @@ static void prints_faults(void)
     EXPECT(says((struct dnw_text_fault){1, 1, 1, DNW_REASON_NONE}, ""));
     EXPECT(says((struct dnw_text_fault){1, 1, 1, DNW_REASON_WORDS_LEFT + 1}, ""));
     EXPECT(says((struct dnw_text_fault){1, 1, 1, DNW_REASON_NAME - 1}, ""));
-    EXPECT(says((struct dnw_text_fault){1, 1, 1, DNW_REASON_END + 1}, ""));
-    for (uint32_t reason = 0; reason <= DNW_REASON_END; reason++) {
+    EXPECT(says((struct dnw_text_fault){1, 1, 1, DNW_REASON_PREFIXES + 1}, ""));
+    for (uint32_t reason = 0; reason <= DNW_REASON_PREFIXES; reason++) {
         size_t len = 0;
         struct dnw_text_fault fault = {SIZE_MAX, 0, SIZE_MAX, reason};
         EXPECT(dnw_text_fault_print(&fault, text, DNW_SENTENCE_SIZE, &len) == DNW_DONE && len <= DNW_SENTENCE_SIZE);

@@ -561,7 +561,17 @@ enum dnw_text_reason {
     DNW_REASON_SIZE = 56,                     /* the number of all octets, up to 65535 in decimal */
     DNW_REASON_OCTETS = 57,                   /* as many octets in hexadecimal as the number before says */
     DNW_REASON_DATA = 58,                     /* octets that are data of the type, without compression pointers */
-    DNW_REASON_END = 59                       /* nothing more */
+    DNW_REASON_END = 59,                      /* nothing more */
+    DNW_REASON_SCHEME = 60,                   /* a scheme of DSYNC by its number or its mnemonic: `NOTIFY` */
+    DNW_REASON_NAMES = 61,                    /* names up to the end */
+    DNW_REASON_GATEWAY = 62,                  /* the type of a gateway, an algorithm, and the gateway */
+    DNW_REASON_RELAY = 63,                    /* the discovery flag of a relay, its type, and the relay */
+    DNW_REASON_HOST_IDENTITY = 64,            /* the algorithm of a host identity, its tag and its key */
+    DNW_REASON_LOCATION = 65,                 /* a location, as `52 22 23.000 N 4 53 32.000 E -2.00m` */
+    DNW_REASON_LOCATOR = 66,                  /* four groups of hexadecimal digits: `2001:db8:1140:1000` */
+    DNW_REASON_NODE_NUMBER = 67,              /* a number of eight octets, in decimal */
+    DNW_REASON_NSAP = 68,                     /* octets in hexadecimal after `0x` */
+    DNW_REASON_PREFIXES = 69                  /* address prefixes up to the end: `1:192.0.2.0/24` */
 };
 
 /* Where a text goes wrong: at `offset`, in octets, where a word of `len` octets is (0 if none is: at the end, or at a

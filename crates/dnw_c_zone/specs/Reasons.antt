@@ -53,6 +53,16 @@ reason_entry why.Size = entry 56 (codes "wanted a number of octets of at most 65
 reason_entry why.Octets = entry 57 (codes "wanted as many octets in hexadecimal as the number says")
 reason_entry why.Data = entry 58 (codes "wanted octets that are data of the type")
 reason_entry why.End = entry 59 (codes "wanted the end of the data")
+reason_entry why.Scheme = entry 60 (codes "wanted a scheme by its number or mnemonic")
+reason_entry why.Names = entry 61 (codes "wanted names")
+reason_entry why.Gateway = entry 62 (codes "wanted the type of a gateway (0 to 3), an algorithm, and `.`, an address or a name")
+reason_entry why.Relay = entry 63 (codes "wanted 0 or 1, the type of a relay (0 to 3), and `.`, an address or a name")
+reason_entry why.HostIdentity = entry 64 (codes "wanted an algorithm, a tag in hexadecimal, and a key in base 64")
+reason_entry why.Location = entry 65 (codes "wanted a location: latitude, longitude and altitude")
+reason_entry why.Locator = entry 66 (codes "wanted four groups of hexadecimal digits with colons between them")
+reason_entry why.NodeNumber = entry 67 (codes "wanted a number of at most 18446744073709551615")
+reason_entry why.Nsap = entry 68 (codes "wanted `0x` and octets in hexadecimal")
+reason_entry why.Prefixes = entry 69 (codes "wanted address prefixes, each as 1:192.0.2.0/24")
 
 abbrev pub reason_number : Reason → ℕ
 reason_number reason = (reason_entry reason).code

@@ -102,6 +102,26 @@ pub enum Reason {
     Data,
     /// Nothing more.
     End,
+    /// A scheme of DSYNC by its number or its mnemonic: `NOTIFY`.
+    Scheme,
+    /// Names up to the end.
+    Names,
+    /// The type of a gateway, an algorithm, and the gateway.
+    Gateway,
+    /// The discovery flag of a relay, its type, and the relay.
+    Relay,
+    /// The algorithm of a host identity, its tag and its key.
+    HostIdentity,
+    /// A location, as `52 22 23.000 N 4 53 32.000 E -2.00m`.
+    Location,
+    /// Four groups of hexadecimal digits: `2001:db8:1140:1000`.
+    Locator,
+    /// A number of eight octets, in decimal.
+    NodeNumber,
+    /// Octets in hexadecimal after `0x`.
+    Nsap,
+    /// Address prefixes up to the end: `1:192.0.2.0/24`.
+    Prefixes,
 }
 
 /// The table of the reasons: each with its number in C and the words of its sentence. The rule that is named gets the rows, after
@@ -156,6 +176,16 @@ macro_rules! reasons {
             Octets = 57, "wanted as many octets in hexadecimal as the number says";
             Data = 58, "wanted octets that are data of the type";
             End = 59, "wanted the end of the data";
+            Scheme = 60, "wanted a scheme by its number or mnemonic";
+            Names = 61, "wanted names";
+            Gateway = 62, "wanted the type of a gateway (0 to 3), an algorithm, and `.`, an address or a name";
+            Relay = 63, "wanted 0 or 1, the type of a relay (0 to 3), and `.`, an address or a name";
+            HostIdentity = 64, "wanted an algorithm, a tag in hexadecimal, and a key in base 64";
+            Location = 65, "wanted a location: latitude, longitude and altitude";
+            Locator = 66, "wanted four groups of hexadecimal digits with colons between them";
+            NodeNumber = 67, "wanted a number of at most 18446744073709551615";
+            Nsap = 68, "wanted `0x` and octets in hexadecimal";
+            Prefixes = 69, "wanted address prefixes, each as 1:192.0.2.0/24";
         }
     };
 }

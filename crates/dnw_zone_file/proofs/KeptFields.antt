@@ -9,7 +9,7 @@ use Rattle.std.specs.Net.Text.{ipv6_text}
 use Rattle.std.proofs.lemmas.Bool.{and_parts, cases_Bool, cases_lt, leb-true}
 use Rattle.std.proofs.lemmas.List.{length-take-le}
 use Rattle.dnw_base.specs.Decoder.{Decoder}
-use Rattle.dnw_base.specs.Names.{label_wire}
+use Rattle.dnw_base.specs.Names.{label_wire, wire}
 use Rattle.dnw_base.specs.RecordTypes.{type_of_code, type_text}
 use Rattle.dnw_data.proofs.Codes.{code_back}
 use Rattle.dnw_data.proofs.Taking.{moves_on}
@@ -20,6 +20,8 @@ use Rattle.dnw_data.specs.declared.kind.Kind.{Kind}
 use Rattle.dnw_data.specs.declared.kind.Kind.TheVariants as kinds
 use Rattle.dnw_data.specs.declared.kind.ListKind.TheVariants as lists
 use Rattle.dnw_data.specs.declared.kind.Shown.TheVariants.{Text, Tag, Hex, Base32Hex, Base64, MaybeBase64, Nsap, Ports, OldTypes}
+use Rattle.dnw_data.specs.declared.kind.Shape.{Shape}
+use Rattle.dnw_data.specs.declared.kind.Shape.TheVariants.{Location, Gateway, Relay, HostIdentity, AddressSuffix}
 use Rattle.dnw_name_read.specs.ReadingLaws.{AreBytes}
 use Rattle.dnw_name_text.specs.NameTexts.{full_name_text}
 use Rattle.dnw_record.specs.RecordFields.{record_fields}
@@ -27,7 +29,7 @@ use Rattle.dnw_record.specs.Records.{RecordValue}
 use Rattle.dnw_base.specs.Limits.{max_data}
 use Rattle.dnw_zone_values.proofs.Identifiers.{hash}
 use Rattle.dnw_zone_values.specs.Base32.{base32_text, is_base32}
-use Rattle.dnw_zone_values.specs.Octets.{IsOctets, salt_text}
+use Rattle.dnw_zone_values.specs.Octets.{IsOctets, base64_text, hex_text, salt_text}
 use Rattle.dnw_zone_values.specs.Prefixes.{prefix_text}
 use Rattle.dnw_zone_values.specs.Pairs.{lower_digit, pairs_text}
 use Rattle.dnw_zone_values.specs.Strings.{string_text}
@@ -35,16 +37,21 @@ use Rattle.dnw_zone_values.specs.Params.{ParamValue}
 use Rattle.dnw_zone_values.specs.ParamTexts.{param_text, params_within}
 use Rattle.dnw_zone_values.proofs.ParamTextsBack.{IsShaped, bare_open, base64_open, drop_fit, ipv6_bare, map_some, param_shaped, segments_fit, take_fit}
 use Rattle.dnw_zone_data.specs.DataTexts.{IsDataText, IsPlainData, without_space}
+use Rattle.dnw_zone_data.specs.Gateways.{PrintsEnd, PrintsShaped, identity_wire, relay_flag, three_words}
 use Rattle.dnw_zone_data.specs.Generic.{generic_text, hex_part}
+use Rattle.dnw_zone_data.specs.NameLists.{names_text}
 use Rattle.dnw_zone_data.specs.Printing.{Prints, PrintsFields, base64_part, strings_text}
 use Rattle.dnw_zone_data.specs.PrefixLists.{prefix_size, prefixes_within}
 use Rattle.dnw_zone_data.specs.TypeLists.{code_text, codes_text, codes_within, is_window}
 use Rattle.dnw_zone_data.proofs.CodesWithin.{Within, octets_within}
 use Rattle.dnw_zone_data.proofs.DataBack.{data_fit}
 use Rattle.dnw_zone_data.proofs.FieldValues.{counted_fit, labels_fit}
+use Rattle.dnw_zone_data.proofs.GatewaysBack.{end_type, end_word, wire_labels_fit}
 use Rattle.dnw_zone_data.proofs.FieldsBack.{dotted, first, type_plain}
 use Rattle.dnw_zone_data.proofs.LocatorsBack.{locator_plain, nsap_plain}
 use Rattle.dnw_zone_data.proofs.PrefixListsBack.{prefix_plain, spaced_parts}
+use Rattle.dnw_zone_data.proofs.LocationsBack.{AreMarks, location_spaced}
+use Rattle.dnw_zone_values.specs.Locations.{spaced as spaced_words}
 use Rattle.dnw_zone_data.proofs.Plain.{all_plain, decimal_plain, hex_plain, is_plain, plain_by_tests}
 use Rattle.dnw_zone_data.proofs.WordsBack.{eight_fit, six_fit}
 use Rattle.dnw_zone_record.specs.RecordLines.{spaced}
@@ -190,6 +197,54 @@ prefixes_kept (suc n) (o ∷ own) text h print =
           subst (λ (t : List ℕ). Keeps Words t Words) e both
     ]
 
+names_kept : (listed : List (List (List ℕ))) → IsOctets (flat_map wire listed) → Keeps Words (names_text listed) Words
+names_kept [] h = keeps_none Words
+names_kept (labels ∷ listed) h =
+    let parts = octets_parts (wire labels) (flat_map wire listed) h in
+    keeps_both (32 ∷ full_name_text labels) (names_text listed) Words Words Words (keeps_spaced (full_name_text labels) (keeps_name labels (wire_labels_fit labels parts.0)))
+    (names_kept listed parts.1)
+
+-- ---- shapes
+
+three_kept : (a b c : List ℕ) → Keeps Words a Words → Keeps Words b Words → Keeps Words c Words → Keeps Words (three_words a b c) Words
+three_kept a b c first second third =
+    keeps_both (32 ∷ a) ((32 ∷ b) ++ (32 ∷ c)) Words Words Words (keeps_spaced a first)
+    (keeps_both (32 ∷ b) (32 ∷ c) Words Words Words (keeps_spaced b second) (keeps_spaced c third))
+
+octet_kept : (n : ℕ) → n < 256 → Keeps Words (decimal n) Words
+octet_kept n h = keeps_plain (decimal n) (decimal_plain n (omega (arith, h)))
+
+end_kept : (type : ℕ) (own text : List ℕ) → IsOctets own → PrintsEnd type own text → Keeps Words text Words
+end_kept type own text h print = elim (end_word type own text h print) [
+  | inl plain ↦ keeps_plain text plain
+  | inr is ↦ subst (λ (t : List ℕ). Keeps Words t Words) (sym is.2) (keeps_name is.0 is.1)
+]
+
+marks_kept : (words : List (List ℕ)) → AreMarks words → Keeps Words (spaced_words words) Words
+marks_kept [] h = keeps_none Words
+marks_kept (w ∷ words) (some, plain, more) =
+    keeps_both (32 ∷ w) (spaced_words words) Words Words Words (keeps_spaced w (keeps_plain w plain)) (marks_kept words more)
+
+shape_kept : (shape : Shape) (own text : List ℕ) → IsOctets own → PrintsShaped shape own text → Keeps Words text Words
+shape_kept Location own text h print =
+    let (words, marks, e) = location_spaced own text h print in subst (λ (t : List ℕ). Keeps Words t Words) (sym e) (marks_kept words marks)
+shape_kept Gateway own text h (type, algorithm, gateway, shown, e, print, p) =
+    let fit : IsOctets (type ∷ algorithm ∷ gateway) = subst IsOctets e h in
+    subst (λ (t : List ℕ). Keeps Words t Words) (sym p)
+    (three_kept (decimal type) (decimal algorithm) shown (octet_kept type (fit 0)) (octet_kept algorithm (fit 1)) (end_kept type gateway shown (λ i. fit (suc (suc i))) print))
+shape_kept Relay own text h (flag, type, relay, shown, bit, e, print, p) =
+    let fit : IsOctets ((relay_flag * flag + type) ∷ relay) = subst IsOctets e h in
+    subst (λ (t : List ℕ). Keeps Words t Words) (sym p)
+    (three_kept (decimal flag) (decimal type) shown (octet_kept flag (omega (arith, bit))) (octet_kept type (omega (arith, end_type type relay shown print)))
+    (end_kept type relay shown (λ i. fit (suc i)) print))
+shape_kept HostIdentity own text h (algorithm, tag, key, are, e, p) =
+    let fit : IsOctets (identity_wire algorithm tag key) = subst IsOctets e h in
+    let parts = octets_parts tag key (λ i. fit (suc (suc (suc (suc i))))) in
+    subst (λ (t : List ℕ). Keeps Words t Words) (sym p)
+    (three_kept (decimal algorithm) (hex_text tag) (base64_text key) (octet_kept algorithm (fit 1)) (keeps_plain (hex_text tag) (hex_plain tag parts.0))
+    (keeps_plain (base64_text key) (base64_open key parts.1)))
+shape_kept AddressSuffix own text h print = absurd print
+
 -- ---- fields
 
 own_fit : (kind : Kind) (d : Decoder) → AreBytes d.bytes → IsOctets (own_at kind d)
@@ -272,7 +327,7 @@ field_kept kinds.NodeNumber d value after text h takes print =
 field_kept (kinds.LongCounted shown) d value after text h takes print =
     by_none (kinds.LongCounted shown) value (long_counted (drop 2 (own_at (kinds.LongCounted shown) d))) text takes.2 print (λ p. p)
 field_kept (kinds.Shaped shape) d value after text h takes print =
-    by_none (kinds.Shaped shape) value (shaped (record { shape = shape; octets = own_at (kinds.Shaped shape) d })) text takes.2 print (λ p. p)
+    by_value (kinds.Shaped shape) value _ text takes.2 print (shape_kept shape (own_at (kinds.Shaped shape) d) text (own_fit (kinds.Shaped shape) d h))
 field_kept (kinds.Octets Text) d value after text h takes print =
     by_value (kinds.Octets Text) value _ text takes.2 print (λ p. kept_by text _ p (keeps_string _ (own_fit (kinds.Octets Text) d h)))
 field_kept (kinds.Octets Hex) d value after text h takes print =
@@ -295,7 +350,9 @@ field_kept (kinds.List lists.Prefixes) d value after text h takes print =
     let own = own_at (kinds.List lists.Prefixes) d in
     by_value (kinds.List lists.Prefixes) value _ text takes.2 print (λ p. prefixes_kept (length own) own text (own_fit (kinds.List lists.Prefixes) d h) p)
 field_kept (kinds.List lists.Names) d value after text h takes print =
-    by_none (kinds.List lists.Names) value (names (items lists.Names (own_at (kinds.List lists.Names) d))) text takes.2 print (λ p. p)
+    by_value (kinds.List lists.Names) value _ text takes.2 print
+    (λ p. let (listed, are, e, t) = p in
+    subst (λ (w : List ℕ). Keeps Words w Words) (sym t) (names_kept listed (subst IsOctets e (own_fit (kinds.List lists.Names) d h))))
 field_kept (kinds.List lists.Texts) d value after text h takes print =
     by_value (kinds.List lists.Texts) value _ text takes.2 print
     (λ p. let (strings, are, e) = p in
