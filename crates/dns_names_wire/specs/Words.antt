@@ -134,7 +134,7 @@ pub use Rattle.dnw_zone_values.specs.Octets.{IsBase64Text, IsHexText, IsOctets, 
 pub use Rattle.dnw_zone_values.specs.Spelling.{Appends, ComesBack}
 pub use Rattle.dnw_zone_values.specs.Base32.{IsHash, IsHashText, base32_octets, base32_text, base32_value, is_base32}
 pub use Rattle.dnw_zone_values.specs.Pairs.{IsIdentifier, IsPairsText, pairs_octets, pairs_text}
-pub use Rattle.dnw_zone_values.specs.Prefixes.{IsPrefixText, PrefixesAreUnambiguous, PrefixesComeBack, prefix_text}
+pub use Rattle.dnw_zone_values.specs.Prefixes.{IsPrefixText, PrefixesAreUnambiguous, PrefixTextsComeBack, prefix_text}
 pub use Rattle.dnw_zone_values.specs.Locators.{IsLocatorText, locator_text}
 pub use Rattle.dnw_zone_values.specs.Nsap.{IsNsapText, nsap_text}
 pub use Rattle.dnw_zone_values.specs.Strings.{IsLongText, IsString, IsStringText, IsText, IsTextWithin, Plain, octet_text}

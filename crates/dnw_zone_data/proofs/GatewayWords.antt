@@ -15,7 +15,7 @@ use Rattle.dnw_data.specs.Values.{FieldValue}
 use Rattle.dnw_zone_values.specs.Inside.Steps.{PushesOne}
 use Rattle.dnw_zone_values.specs.Numbers.{max_u8, IsNumberText}
 use Rattle.dnw_zone_data.specs.Appending.{AppendsOne}
-use Rattle.dnw_zone_data.specs.Gateways.{AreTagAndKey, IsEnd, IsGateway, IsIdentity, IsRelay, PrintsEnd, PrintsGateway, PrintsRelay, PrintsIdentity, identity_wire, of_shape, relay_flag}
+use Rattle.dnw_zone_data.specs.Gateways.{AreTagAndKey, IsGatewayEnd, IsGateway, IsIdentity, IsRelay, PrintsEnd, PrintsGateway, PrintsRelay, PrintsIdentity, identity_wire, of_shape, relay_flag}
 use Rattle.dnw_zone_data.specs.Parsing.{SpellsOctets}
 use Rattle.dnw_zone_data.proofs.GatewaysBack.{end_type}
 use Rattle.dnw_zone_data.proofs.OneText.{one_base64, one_hex}
@@ -32,7 +32,7 @@ pushes_as Is Of old new (Err e) to from h = h
 abbrev pub IsEnd4 : List ℕ → List ℕ → Type 0
 IsEnd4 text own = (a : Ipv4Addr) × IsUtf8 text × IsIpv4Text text a × (own ≡ ipv4_octets a)
 
-pub end4 : (origin : Option NameValue) (text own : List ℕ) → IsEnd origin 1 text own → IsEnd4 text own
+pub end4 : (origin : Option NameValue) (text own : List ℕ) → IsGatewayEnd origin 1 text own → IsEnd4 text own
 end4 origin text own (inl is) = absurd (omega (arith, is.0))
 end4 origin text own (inr (inl is)) = (is.1, is.2, is.3, is.4)
 end4 origin text own (inr (inr (inl is))) = absurd (omega (arith, is.0))
@@ -41,7 +41,7 @@ end4 origin text own (inr (inr (inr is))) = absurd (omega (arith, is.0))
 abbrev pub IsEnd6 : List ℕ → List ℕ → Type 0
 IsEnd6 text own = (a : Ipv6Addr) × IsUtf8 text × IsIpv6Text text a × (own ≡ octets_of (ipv6_segments a))
 
-pub end6 : (origin : Option NameValue) (text own : List ℕ) → IsEnd origin 2 text own → IsEnd6 text own
+pub end6 : (origin : Option NameValue) (text own : List ℕ) → IsGatewayEnd origin 2 text own → IsEnd6 text own
 end6 origin text own (inl is) = absurd (omega (arith, is.0))
 end6 origin text own (inr (inl is)) = absurd (omega (arith, is.0))
 end6 origin text own (inr (inr (inl is))) = (is.1, is.2, is.3, is.4)
@@ -51,23 +51,23 @@ two_more : (old own : List ℕ) (a b : ℕ) → ((old ++ a ∷ []) ++ b ∷ []) 
 two_more old own a b = append_assoc (old ++ a ∷ []) (b ∷ []) own ∙ append_assoc old (a ∷ []) (b ∷ own)
 
 pub as_gateway : {E : Type 0} (origin : Option NameValue) (first second third old one two new : List ℕ) (type algorithm : ℕ) (read : Result Bool E) → IsNumberText max_u8 first type
-    → IsNumberText max_u8 second algorithm → one ≡ old ++ type ∷ [] → two ≡ one ++ algorithm ∷ [] → IfOk read (PushesOne (IsEnd origin type third) two new)
+    → IsNumberText max_u8 second algorithm → one ≡ old ++ type ∷ [] → two ≡ one ++ algorithm ∷ [] → IfOk read (PushesOne (IsGatewayEnd origin type third) two new)
     → IfOk read (AppendsOne (IsGateway origin first second third) old new)
 as_gateway origin first second third old one two new type algorithm (Ok true) t g e f h =
     let octets : new ≡ old ++ type ∷ algorithm ∷ h.0 = h.2 ∙ ap (λ (xs : List ℕ). xs ++ h.0) (f ∙ ap (λ (xs : List ℕ). xs ++ algorithm ∷ []) e) ∙ two_more old h.0 type algorithm in
     (of_shape Gateway (type ∷ algorithm ∷ h.0), (type, algorithm, h.0, t, g, h.1, refl), octets)
 as_gateway origin first second third old one two new type algorithm (Ok false) t g e f h =
-    λ value is. h is.2 (subst (λ (n : ℕ). IsEnd origin n third is.2) (sym is.3.1 ∙ t.1) is.5)
+    λ value is. h is.2 (subst (λ (n : ℕ). IsGatewayEnd origin n third is.2) (sym is.3.1 ∙ t.1) is.5)
 as_gateway origin first second third old one two new type algorithm (Err x) t g e f h = h
 
 pub as_relay : {E : Type 0} (origin : Option NameValue) (first second third old one new : List ℕ) (flag type : ℕ) (read : Result Bool E) → IsNumberText 1 first flag
-    → IsNumberText max_u8 second type → one ≡ old ++ (relay_flag * flag + type) ∷ [] → IfOk read (PushesOne (IsEnd origin type third) one new)
+    → IsNumberText max_u8 second type → one ≡ old ++ (relay_flag * flag + type) ∷ [] → IfOk read (PushesOne (IsGatewayEnd origin type third) one new)
     → IfOk read (AppendsOne (IsRelay origin first second third) old new)
 as_relay origin first second third old one new flag type (Ok true) d t e h =
     let octets : new ≡ old ++ (relay_flag * flag + type) ∷ h.0 = h.2 ∙ ap (λ (xs : List ℕ). xs ++ h.0) e ∙ append_assoc old ((relay_flag * flag + type) ∷ []) h.0 in
     (of_shape Relay ((relay_flag * flag + type) ∷ h.0), (flag, type, h.0, d, t, h.1, refl), octets)
 as_relay origin first second third old one new flag type (Ok false) d t e h =
-    λ value is. h is.2 (subst (λ (n : ℕ). IsEnd origin n third is.2) (sym is.4.1 ∙ t.1) is.5)
+    λ value is. h is.2 (subst (λ (n : ℕ). IsGatewayEnd origin n third is.2) (sym is.4.1 ∙ t.1) is.5)
 as_relay origin first second third old one new flag type (Err x) d t e h = h
 
 -- octets that were appended to none

@@ -25,9 +25,9 @@ use Rattle.dnw_zone_values.proofs.ComeBack.{hexadecimal, numbers}
 use Rattle.dnw_zone_values.proofs.ParamTextsBack.{base64_open, base64_some, bare_open, halves, ipv6_bare, segments_fit}
 use Rattle.dnw_zone_data.specs.declared.extent.Extent.TheVariants.{Three}
 use Rattle.dnw_zone_data.specs.declared.number_form.NumberForm.{NumberForm}
-use Rattle.dnw_zone_data.specs.Words.{after_spaces, after_word, is_end, next_word, word}
+use Rattle.dnw_zone_data.specs.Words.{after_spaces, after_word, is_end, second_word_on, word}
 use Rattle.dnw_zone_data.specs.NameReading.{named_at}
-use Rattle.dnw_zone_data.specs.Gateways.{AreTagAndKey, IsEnd, PrintsEnd, PrintsShaped, identity_wire, of_shape, relay_flag, three_words}
+use Rattle.dnw_zone_data.specs.Gateways.{AreTagAndKey, IsGatewayEnd, PrintsEnd, PrintsShaped, identity_wire, of_shape, relay_flag, three_words}
 use Rattle.dnw_zone_data.specs.Generic.{generic_mark}
 use Rattle.dnw_zone_data.specs.Parsing.{AreThree, ReadsField, extent_of}
 use Rattle.dnw_zone_data.specs.DataTextLaws.{FieldComesBack, IsFieldReadBack}
@@ -62,9 +62,9 @@ name_one labels are h = record {
 -- Three words are at the start of a text, and this is after them.
 record AreAt (a b c left rest : List ℕ) : Type 0 where
   first : word left ≡ a
-  second : word (next_word left) ≡ b
-  third : word (next_word (next_word left)) ≡ c
-  after : after_word (next_word (next_word left)) ≡ rest
+  second : word (second_word_on left) ≡ b
+  third : word (second_word_on (second_word_on left)) ≡ c
+  after : after_word (second_word_on (second_word_on left)) ≡ rest
 
 three_seam : (x y z rest : List ℕ) → (x ++ (y ++ z)) ++ rest ≡ x ++ (y ++ (z ++ rest))
 three_seam x y z rest = append_assoc x (y ++ z) rest ∙ ap (λ (t : List ℕ). x ++ t) (append_assoc y z rest)
@@ -75,9 +75,9 @@ three_at a b c rest one two three end =
     let others : List ℕ = 32 ∷ b ++ last in
     let seam : three_words a b c ++ rest ≡ (32 ∷ a) ++ others = three_seam (32 ∷ a) (32 ∷ b) (32 ∷ c) rest in
     let start : after_spaces (three_words a b c ++ rest) ≡ a ++ others = ap after_spaces seam ∙ one.begins others refl in
-    let second : next_word (a ++ others) ≡ b ++ last = ap after_spaces (one.left others refl) ∙ two.begins last refl in
-    let third : next_word (b ++ last) ≡ c ++ rest = ap after_spaces (two.left last refl) ∙ three.begins rest end in
-    let at_third : next_word (next_word (a ++ others)) ≡ c ++ rest = ap next_word second ∙ third in
+    let second : second_word_on (a ++ others) ≡ b ++ last = ap after_spaces (one.left others refl) ∙ two.begins last refl in
+    let third : second_word_on (b ++ last) ≡ c ++ rest = ap after_spaces (two.left last refl) ∙ three.begins rest end in
+    let at_third : second_word_on (second_word_on (a ++ others)) ≡ c ++ rest = ap second_word_on second ∙ third in
     rw start (record {
       first = one.whole others refl;
       second = ap word second ∙ two.whole last refl;
@@ -92,7 +92,7 @@ by_three : (origin : Option NameValue) (way : NumberForm) (kind : Kind) (printed
 by_three origin way kind printed a b c rest value extent print one two three end other is =
     let at = three_at a b c rest one two three end in
     let left = after_spaces (three_words a b c ++ rest) in
-    let words : AreThree origin kind (word left) (word (next_word left)) (word (next_word (next_word left))) value = rw (at.first, at.second, at.third) is in
+    let words : AreThree origin kind (word left) (word (second_word_on left)) (word (second_word_on (second_word_on left))) value = rw (at.first, at.second, at.third) is in
     let reads : ReadsField origin way kind left value rest = rw extent (words, sym at.after) in
     rw print (reads, (λ e. other (sym at.first ∙ e)), refl)
 
@@ -118,7 +118,7 @@ pub wire_labels_fit : (ls : List (List ℕ)) → IsOctets (wire ls) → AllByRec
 wire_labels_fit ls h = labels_fit ls (0 ∷ []) h
 
 -- A gateway or a relay is one word, and read as its octets.
-pub end_back : (origin : Option NameValue) (type : ℕ) (own text : List ℕ) → IsOctets own → PrintsEnd type own text → IsOneWord text × IsEnd origin type text own
+pub end_back : (origin : Option NameValue) (type : ℕ) (own text : List ℕ) → IsOctets own → PrintsEnd type own text → IsOneWord text × IsGatewayEnd origin type text own
 end_back origin type own text h (inl (t, none, e)) = rw e (plain_one (codes ".") refl (omega arith), inl (t, refl, none))
 end_back origin type own text h (inr (inl (t, four, e))) =
     let a : Ipv4Addr = record { octets = own } in

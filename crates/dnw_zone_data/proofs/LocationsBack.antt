@@ -10,7 +10,7 @@ use Rattle.dnw_zone_values.specs.declared.location.Axis.{Axis}
 use Rattle.dnw_zone_values.specs.declared.location.Axis.TheVariants.{Latitude, Longitude}
 use Rattle.dnw_zone_values.specs.declared.location.Location.{Location}
 use Rattle.dnw_zone_values.specs.Octets.{IsOctets}
-use Rattle.dnw_zone_values.specs.Locations.{altitude_text, angle_words, arc, degree, depth, hundredths_text, is_angle, is_location, is_precision, letter, location_at, location_words, max_degrees, minute, negative_letter, origin, positive_letter, size_of, size_text, spaced, thousandths_text, PrintsLocation}
+use Rattle.dnw_zone_values.specs.Locations.{altitude_text, angle_words, arc, degree, depth, hundredths_text, is_angle, is_location, is_precision, letter, location_at, location_words, max_degrees, minute, negative_letter, origin, positive_letter, size_of, size_text, words_text, thousandths_text, PrintsLocation}
 use Rattle.dnw_zone_values.proofs.LocationsBack.{back, few_degrees, first_is, size_fits, wire_back}
 use Rattle.dnw_zone_data.specs.Words.{after_spaces, after_word, is_end, word}
 use Rattle.dnw_zone_data.specs.Generic.{generic_mark}
@@ -24,16 +24,16 @@ abbrev pub AreMarks : List (List ℕ) → Type 0
 AreMarks [] = Unit {0}
 AreMarks (w ∷ words) = (0 < length w) × (all_plain w ≡ true) × AreMarks words
 
-spaced_end : (words : List (List ℕ)) → is_end (spaced words) ≡ true
+spaced_end : (words : List (List ℕ)) → is_end (words_text words) ≡ true
 spaced_end [] = refl
 spaced_end (w ∷ words) = refl
 
-spaced_words : (words : List (List ℕ)) → AreMarks words → AreWords (spaced words) words
+spaced_words : (words : List (List ℕ)) → AreMarks words → AreWords (words_text words) words
 spaced_words [] h = refl
 spaced_words (w ∷ words) (some, plain, more) =
-    let rest = spaced words in
+    let rest = words_text words in
     let end = spaced_end words in
-    let starts : after_spaces (spaced (w ∷ words)) ≡ w ++ rest = plain_starts w rest plain some in
+    let starts : after_spaces (words_text (w ∷ words)) ≡ w ++ rest = plain_starts w rest plain some in
     rw (starts, plain_word w rest plain end, plain_after w rest plain end)
     ((λ none. omega (arith, some, ap length none, length-append w rest)), refl, spaced_words words more)
 
@@ -134,7 +134,7 @@ no_mark : (n : ℕ) → n < 2 ^ 64 → decimal n ≢ generic_mark
 no_mark n h e = omega (arith, (first_is n h []).1, ap (λ (xs : List ℕ). slice_index (xs ++ []) 0) e)
 
 -- what is printed are plain words, each after a space
-pub location_spaced : (own text : List ℕ) → IsOctets own → PrintsLocation own text → (words : List (List ℕ)) × AreMarks words × (text ≡ spaced words)
+pub location_spaced : (own text : List ℕ) → IsOctets own → PrintsLocation own text → (words : List (List ℕ)) × AreMarks words × (text ≡ words_text words)
 location_spaced own text octets print =
     let l = location_at own in (location_words l, location_marks l print.1 (wire_back own octets print.0).1, print.2)
 
@@ -144,12 +144,12 @@ location_back own text octets print =
     let l = location_at own in
     let (spelled, are, wire) = back own text octets print in
     let words = spaced_words (location_words l) (location_marks l print.1 (wire_back own octets print.0).1) in
-    let first : word (after_spaces (spaced (location_words l))) ≡ decimal (arc l.latitude / degree) = words.1 in
+    let first : word (after_spaces (words_text (location_words l))) ≡ decimal (arc l.latitude / degree) = words.1 in
     rw spelled (
       (
         location_words l,
         l,
-        from_start (spaced (location_words l)) (location_words l) words,
+        from_start (words_text (location_words l)) (location_words l) words,
         are,
         ap (λ (xs : List ℕ). shaped (record { shape = shapes.Location; octets = xs })) (sym wire),
       ),

@@ -36,10 +36,10 @@ use Rattle.dnw_zone_data.specs.declared.extent.Extent.TheVariants.{One, Three, A
 use Rattle.dnw_zone_data.specs.declared.number_form.NumberForm.{NumberForm}
 use Rattle.dnw_zone_data.specs.declared.number_form.NumberForm.TheVariants.{Decimal, Period, Algorithm, CertificateType, Scheme}
 use Rattle.dnw_zone_data.specs.NumberForms.{first_form, number_forms, other_forms, IsNumberIn}
-use Rattle.dnw_zone_data.specs.Gateways.{AreShape, IsEnd, IsGateway, IsIdentity, IsRelay, IsShape, identity_wire, of_shape, relay_flag}
+use Rattle.dnw_zone_data.specs.Gateways.{AreShape, IsGatewayEnd, IsGateway, IsIdentity, IsRelay, IsShape, identity_wire, of_shape, relay_flag}
 use Rattle.dnw_zone_data.specs.NameLists.{AreNameWords}
 use Rattle.dnw_zone_data.specs.TypeLists.{AreTypeWords}
-use Rattle.dnw_zone_data.specs.Words.{after_spaces, after_word, next_word, without_spaces, word}
+use Rattle.dnw_zone_data.specs.Words.{after_spaces, after_word, second_word_on, without_spaces, word}
 use Rattle.dnw_zone_data.specs.DataTexts.{IsPlainData, IsTextOf, text_kinds}
 use Rattle.dnw_zone_data.specs.Generic.{IsGeneric}
 use Rattle.dnw_zone_data.specs.DataTextLaws.{DataAreUnambiguous, PrintedDataAreSame}
@@ -181,7 +181,7 @@ one_list origin kind left v w hv hw x y = absurd x
 
 -- ---- three words
 
-one_end : (origin : Option NameValue) (type : ℕ) (text a b : List ℕ) → IsEnd origin type text a → IsEnd origin type text b → a ≡ b
+one_end : (origin : Option NameValue) (type : ℕ) (text a b : List ℕ) → IsGatewayEnd origin type text a → IsGatewayEnd origin type text b → a ≡ b
 one_end origin type text a b (inl x) (inl y) = x.2 ∙ sym y.2
 one_end origin type text a b (inl x) (inr (inl y)) = absurd (omega (arith, x.0, y.0))
 one_end origin type text a b (inl x) (inr (inr (inl y))) = absurd (omega (arith, x.0, y.0))
@@ -204,7 +204,7 @@ one_gateway : (origin : Option NameValue) (first second third : List ℕ) (v w :
 one_gateway origin first second third v w (t, g, own, ht, hg, end, e) (u, k, other, hu, hk, also, f) =
     let type : t ≡ u = sym ht.1 ∙ hu.1 in
     let algorithm : g ≡ k = sym hg.1 ∙ hk.1 in
-    let same : own ≡ other = one_end origin u third own other (subst (λ (n : ℕ). IsEnd origin n third own) type end) also in
+    let same : own ≡ other = one_end origin u third own other (subst (λ (n : ℕ). IsGatewayEnd origin n third own) type end) also in
     let octets : t ∷ g ∷ own ≡ u ∷ k ∷ other = rw (type, algorithm, same) refl in
     e ∙ ap (of_shape Gateway) octets ∙ sym f
 
@@ -212,7 +212,7 @@ one_relay : (origin : Option NameValue) (first second third : List ℕ) (v w : F
 one_relay origin first second third v w (d, t, own, hd, ht, end, e) (c, u, other, hc, hu, also, f) =
     let flag : d ≡ c = sym hd.1 ∙ hc.1 in
     let type : t ≡ u = sym ht.1 ∙ hu.1 in
-    let same : own ≡ other = one_end origin u third own other (subst (λ (n : ℕ). IsEnd origin n third own) type end) also in
+    let same : own ≡ other = one_end origin u third own other (subst (λ (n : ℕ). IsGatewayEnd origin n third own) type end) also in
     let octets : (relay_flag * d + t) ∷ own ≡ (relay_flag * c + u) ∷ other = rw (flag, type, same) refl in
     e ∙ ap (of_shape Relay) octets ∙ sym f
 
@@ -239,7 +239,7 @@ one_three origin kind first second third v w x y = absurd x
 one_by : (extent : Extent) (origin : Option NameValue) (way : NumberForm) (kind : Kind) (left : List ℕ) (v w : FieldValue) (r s : List ℕ) → IsOctets (field_wire v)
     → IsOctets (field_wire w) → ReadsBy extent origin way kind left v r → ReadsBy extent origin way kind left w s → (v ≡ w) × (r ≡ s)
 one_by One origin way kind left v w r s hv hw x y = (one_word_lem origin way kind (word left) v w x.0 y.0, x.1 ∙ sym y.1)
-one_by Three origin way kind left v w r s hv hw x y = (one_three origin kind (word left) (word (next_word left)) (word (next_word (next_word left))) v w x.0 y.0, x.1 ∙ sym y.1)
+one_by Three origin way kind left v w r s hv hw x y = (one_three origin kind (word left) (word (second_word_on left)) (word (second_word_on (second_word_on left))) v w x.0 y.0, x.1 ∙ sym y.1)
 one_by All origin way kind left v w r s hv hw x y = (one_list origin kind left v w hv hw x.0 y.0, x.1 ∙ sym y.1)
 
 one_field : (origin : Option NameValue) (way : NumberForm) (kind : Kind) (left : List ℕ) (v w : FieldValue) (r s : List ℕ) → IsOctets (field_wire v) → IsOctets (field_wire w)

@@ -9,13 +9,13 @@ use Rattle.std.proofs.lemmas.List.{take-append-drop}
 use Rattle.dnw_data.specs.declared.kind.ListKind.TheVariants as lists
 use Rattle.dnw_data.specs.Values.{FieldValue, prefixes, items}
 use Rattle.dnw_zone_values.specs.Octets.{IsOctets}
-use Rattle.dnw_zone_values.specs.Prefixes.{padded, negation_text, address_text, shown_text, is_shown, prefix_text, family_of, negates, slash, IsPrefixText}
+use Rattle.dnw_zone_values.specs.Prefixes.{with_zeros, negation_text, prefix_address_text, shown_prefix_text, is_shown, prefix_text, prefix_family, negates, slash, IsPrefixText}
 use Rattle.dnw_zone_values.proofs.ParamTextsBack.{take_fit, drop_fit, segments_fit}
 use Rattle.dnw_zone_values.proofs.PrefixesBack.{one_prefix}
 use Rattle.dnw_zone_values.proofs.PrefixTextsBack.{is_address, all_address, ipv4_address, ipv6_address, padded_fit, prefix_back}
 use Rattle.dnw_zone_data.specs.Words.{is_end, word, after_word, after_spaces}
 use Rattle.dnw_zone_data.specs.Generic.{generic_mark}
-use Rattle.dnw_zone_data.specs.PrefixLists.{prefix_size, spaced_before, prefixes_within, PrintsPrefixes, ArePrefixWords, ArePrefixes}
+use Rattle.dnw_zone_data.specs.PrefixLists.{first_prefix_size, spaced_before, prefixes_within, PrintsPrefixes, ArePrefixWords, ArePrefixes}
 use Rattle.dnw_zone_data.proofs.Items.{starts_twice}
 use Rattle.dnw_zone_data.proofs.Plain.{is_plain, plain_by_tests, all_plain, plain_starts, plain_word, plain_after, plain_append, decimal_plain}
 
@@ -28,14 +28,14 @@ address_plain : (t : List ℕ) → all_address t ≡ true → all_plain t ≡ tr
 address_plain [] h = refl
 address_plain (c ∷ t) h = let parts = and_parts (is_address c) (all_address t) h in rw (address_one c parts.0) (address_plain t parts.1)
 
-family_plain : (f : ℕ) (xs : List ℕ) → IsOctets xs → (all_plain (address_text f xs) ≡ true) × (0 < length (address_text f xs))
+family_plain : (f : ℕ) (xs : List ℕ) → IsOctets xs → (all_plain (prefix_address_text f xs) ≡ true) × (0 < length (prefix_address_text f xs))
 family_plain f xs h =
-    let v4 = ipv4_text (padded 4 xs) in
-    let s = segments_of (padded 16 xs) in
+    let v4 = ipv4_text (with_zeros 4 xs) in
+    let s = segments_of (with_zeros 16 xs) in
     let v6 = ipv6_text s in
     cond_both (f == 1) (codes "1:" ++ v4) (codes "2:" ++ v6) (λ t. (all_plain t ≡ true) × (0 < length t))
-    (λ _. (address_plain v4 (ipv4_address (padded 4 xs) (padded_fit 4 xs h)), omega arith))
-    (λ _. (address_plain v6 (ipv6_address s (segments_fit (padded 16 xs) (padded_fit 16 xs h))), omega arith))
+    (λ _. (address_plain v4 (ipv4_address (with_zeros 4 xs) (padded_fit 4 xs h)), omega arith))
+    (λ _. (address_plain v6 (ipv6_address s (segments_fit (with_zeros 16 xs) (padded_fit 16 xs h))), omega arith))
 
 negation_plain : (n : Bool) → all_plain (negation_text n) ≡ true
 negation_plain false = refl
@@ -45,9 +45,9 @@ pub prefix_plain : (own text : List ℕ) → IsOctets own → prefix_text own �
 prefix_plain own text h e = elim (cases_Bool (is_shown own)) [
   | inl shown ↦
       let w = rw shown at e in
-      let same : shown_text own ≡ text = cc in
-      let (plain, some) = family_plain (family_of own) (drop 4 own) (drop_fit 4 own h) in
-      let a = address_text (family_of own) (drop 4 own) in
+      let same : shown_prefix_text own ≡ text = cc in
+      let (plain, some) = family_plain (prefix_family own) (drop 4 own) (drop_fit 4 own h) in
+      let a = prefix_address_text (prefix_family own) (drop 4 own) in
       let size = slash ∷ decimal (slice_index own 2) in
       let last : all_plain size ≡ true = decimal_plain (slice_index own 2) (omega (arith, h 2)) in
       let all = plain_append (negation_text (negates own)) (a ++ size) (negation_plain (negates own)) (plain_append a size plain last) in
@@ -76,7 +76,7 @@ prefix_words n [] text h print = let none : [] ≡ text = cc in ([], subst (λ (
 prefix_words zero (o ∷ own) text h print = absurd cc
 prefix_words (suc n) (o ∷ own) text h print =
     let all = o ∷ own in
-    let size = prefix_size all in
+    let size = first_prefix_size all in
     elim (cases_Bool (nat_le size (length all))) [
       | inr other ↦ let wrong = rw other at print in absurd cc
       | inl fits ↦

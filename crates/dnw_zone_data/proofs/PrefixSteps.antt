@@ -6,7 +6,7 @@ use Rattle.std.proofs.lemmas.Bool.{le-leb, lt-leb}
 use Rattle.dnw_zone_values.specs.Inside.Steps.{IsSpaced}
 use Rattle.dnw_zone_values.specs.Prefixes.{prefix_text, IsPrefixText}
 use Rattle.dnw_zone_data.specs.Words.{after_spaces, word, after_word}
-use Rattle.dnw_zone_data.specs.PrefixLists.{prefix_size, spaced_before, prefixes_within, PrintsPrefixes, ArePrefixWords}
+use Rattle.dnw_zone_data.specs.PrefixLists.{first_prefix_size, spaced_before, prefixes_within, PrintsPrefixes, ArePrefixWords}
 use Rattle.dnw_zone_data.specs.Appending.{AppendedInPart}
 use Rattle.dnw_zone_data.specs.Inside.PrefixWords.{LeadToPrefixes}
 use Rattle.dnw_zone_data.proofs.TypeSteps.{after, after_all}
@@ -49,18 +49,18 @@ spaced_none None = refl
 spaced_none (Some own) = refl
 
 -- a prefix, if it has a text
-prefix_one : (n : ℕ) (left own others text : List ℕ) → left ≢ [] → left ≡ own ++ others → length own ≡ prefix_size left → prefix_text own ≡ Some text
+prefix_one : (n : ℕ) (left own others text : List ℕ) → left ≢ [] → left ≡ own ++ others → length own ≡ first_prefix_size left → prefix_text own ≡ Some text
     → prefixes_within (suc n) left ≡ after (32 ∷ text) (prefixes_within n others)
 prefix_one n [] own others text some whole size is = absurd (some refl)
 prefix_one n (o ∷ left) own others text some whole size is =
     let all = o ∷ left in
-    let front : take (prefix_size all) all ≡ own = ap (take (prefix_size all)) whole ∙ take_at own others (prefix_size all) size in
-    let back : drop (prefix_size all) all ≡ others = ap (drop (prefix_size all)) whole ∙ drop_at own others (prefix_size all) size in
-    let fits : nat_le (prefix_size all) (length all) ≡ true = le-leb (prefix_size all) (length all) (omega (arith, size, ap length whole, length-append own others)) in
+    let front : take (first_prefix_size all) all ≡ own = ap (take (first_prefix_size all)) whole ∙ take_at own others (first_prefix_size all) size in
+    let back : drop (first_prefix_size all) all ≡ others = ap (drop (first_prefix_size all)) whole ∙ drop_at own others (first_prefix_size all) size in
+    let fits : nat_le (first_prefix_size all) (length all) ≡ true = le-leb (first_prefix_size all) (length all) (omega (arith, size, ap length whole, length-append own others)) in
     rw (fits, front, back, is) (spaced_is text (prefixes_within n others))
 
 pub prefix_more : (all left own others found text : List ℕ) (n : ℕ) → prefixes_within (length all) all ≡ after found (prefixes_within n left) → length left ≤ n
-    → left ≢ [] → left ≡ own ++ others → length own ≡ prefix_size left → prefix_text own ≡ Some text
+    → left ≢ [] → left ≡ own ++ others → length own ≡ first_prefix_size left → prefix_text own ≡ Some text
     → (m : ℕ) × (length others ≤ m) × (prefixes_within (length all) all ≡ after (found ++ 32 ∷ text) (prefixes_within m others))
 prefix_more all [] own others found text n so_far few some whole size is = absurd (some refl)
 prefix_more all (o ∷ left) own others found text zero so_far few some whole size is = absurd (omega (arith, few))
@@ -71,20 +71,20 @@ prefix_more all (o ∷ left) own others found text (suc n) so_far few some whole
 )
 
 -- none
-pub prefix_short : (n : ℕ) (left : List ℕ) → left ≢ [] → length left < prefix_size left → prefixes_within n left ≡ None
+pub prefix_short : (n : ℕ) (left : List ℕ) → left ≢ [] → length left < first_prefix_size left → prefixes_within n left ≡ None
 prefix_short n [] some few = absurd (some refl)
 prefix_short zero (o ∷ left) some few = refl
-prefix_short (suc n) (o ∷ left) some few = let fits = lt-leb (prefix_size (o ∷ left)) (length (o ∷ left)) few in rw fits refl
+prefix_short (suc n) (o ∷ left) some few = let fits = lt-leb (first_prefix_size (o ∷ left)) (length (o ∷ left)) few in rw fits refl
 
-pub prefix_none : (n : ℕ) (left own others : List ℕ) → left ≢ [] → left ≡ own ++ others → length own ≡ prefix_size left → prefix_text own ≡ None
+pub prefix_none : (n : ℕ) (left own others : List ℕ) → left ≢ [] → left ≡ own ++ others → length own ≡ first_prefix_size left → prefix_text own ≡ None
     → prefixes_within n left ≡ None
 prefix_none n [] own others some whole size is = absurd (some refl)
 prefix_none zero (o ∷ left) own others some whole size is = refl
 prefix_none (suc n) (o ∷ left) own others some whole size is =
     let all = o ∷ left in
-    let front : take (prefix_size all) all ≡ own = ap (take (prefix_size all)) whole ∙ take_at own others (prefix_size all) size in
-    let fits : nat_le (prefix_size all) (length all) ≡ true = le-leb (prefix_size all) (length all) (omega (arith, size, ap length whole, length-append own others)) in
-    rw (fits, front, is) (spaced_none (prefixes_within n (drop (prefix_size all) all)))
+    let front : take (first_prefix_size all) all ≡ own = ap (take (first_prefix_size all)) whole ∙ take_at own others (first_prefix_size all) size in
+    let fits : nat_le (first_prefix_size all) (length all) ≡ true = le-leb (first_prefix_size all) (length all) (omega (arith, size, ap length whole, length-append own others)) in
+    rw (fits, front, is) (spaced_none (prefixes_within n (drop (first_prefix_size all) all)))
 
 pub spaced_more : (found text : List ℕ) → IsSpaced found → IsSpaced (found ++ 32 ∷ text)
 spaced_more [] text h = refl

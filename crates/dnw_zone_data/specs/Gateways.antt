@@ -79,8 +79,8 @@ PrintsShaped shape own text = ⊥
 -- ---- parsing
 
 -- a word is the octets of a gateway or a relay of a type; an origin completes a name
-abbrev pub IsEnd : Option NameValue → ℕ → List ℕ → List ℕ → Type 0
-IsEnd origin type text own =
+abbrev pub IsGatewayEnd : Option NameValue → ℕ → List ℕ → List ℕ → Type 0
+IsGatewayEnd origin type text own =
     ((type ≡ 0) × (text ≡ codes ".") × (own ≡ []))
     ⊎ ((type ≡ 1) × (a : Ipv4Addr) × IsUtf8 text × IsIpv4Text text a × (own ≡ ipv4_octets a))
     ⊎ ((type ≡ 2) × (a : Ipv6Addr) × IsUtf8 text × IsIpv6Text text a × (own ≡ octets_of (ipv6_segments a)))
@@ -89,13 +89,13 @@ IsEnd origin type text own =
 -- words are the type of a gateway, an algorithm and the gateway
 abbrev pub IsGateway : Option NameValue → List ℕ → List ℕ → List ℕ → FieldValue → Type 0
 IsGateway origin first second third value =
-    (type : ℕ) × (algorithm : ℕ) × (gateway : List ℕ) × IsNumberText max_u8 first type × IsNumberText max_u8 second algorithm × IsEnd origin type third gateway
+    (type : ℕ) × (algorithm : ℕ) × (gateway : List ℕ) × IsNumberText max_u8 first type × IsNumberText max_u8 second algorithm × IsGatewayEnd origin type third gateway
     × (value ≡ of_shape Gateway (type ∷ algorithm ∷ gateway))
 
 -- words are a flag, the type of a relay and the relay
 abbrev pub IsRelay : Option NameValue → List ℕ → List ℕ → List ℕ → FieldValue → Type 0
 IsRelay origin first second third value =
-    (flag : ℕ) × (type : ℕ) × (relay : List ℕ) × IsNumberText 1 first flag × IsNumberText max_u8 second type × IsEnd origin type third relay
+    (flag : ℕ) × (type : ℕ) × (relay : List ℕ) × IsNumberText 1 first flag × IsNumberText max_u8 second type × IsGatewayEnd origin type third relay
     × (value ≡ of_shape Relay ((relay_flag * flag + type) ∷ relay))
 
 -- words are an algorithm, a tag in hexadecimal and a key in base 64

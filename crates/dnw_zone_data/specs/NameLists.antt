@@ -23,6 +23,6 @@ AreNameWords origin left (labels ∷ listed) =
     (after_spaces left ≢ []) × (named_at origin (word (after_spaces left)) ≡ Some labels) × AreNameWords origin (after_word (after_spaces left)) listed
 
 -- the words of a text are names, and these are their octets; there may be none
-abbrev pub AreNames : Option NameValue → List ℕ → FieldValue → Type 0
-AreNames origin left value =
+abbrev pub AreListedNames : Option NameValue → List ℕ → FieldValue → Type 0
+AreListedNames origin left value =
     (listed : List (List (List ℕ))) × AreNameWords origin left listed × (value ≡ names (items lists.Names (flat_map wire listed)))

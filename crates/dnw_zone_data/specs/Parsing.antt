@@ -28,12 +28,12 @@ use Rattle.dnw_zone_data.specs.declared.extent.Extent.{Extent}
 use Rattle.dnw_zone_data.specs.declared.extent.Extent.TheVariants.{One, Three, All}
 use Rattle.dnw_zone_data.specs.declared.number_form.NumberForm.{NumberForm}
 use Rattle.dnw_zone_data.specs.NumberForms.{first_form, other_forms, IsNumberIn}
-use Rattle.dnw_zone_data.specs.Words.{after_spaces, word, after_word, next_word, without_spaces}
+use Rattle.dnw_zone_data.specs.Words.{after_spaces, word, after_word, second_word_on, without_spaces}
 use Rattle.dnw_zone_data.specs.Faults.{fault, wanted_of}
 use Rattle.dnw_zone_data.specs.NameReading.{named_at}
 use Rattle.dnw_zone_data.specs.Gateways.{AreShape, IsShape}
 use Rattle.dnw_zone_data.specs.Locators.{IsLocatorField, IsNodeNumber, IsNsapField}
-use Rattle.dnw_zone_data.specs.NameLists.{AreNames}
+use Rattle.dnw_zone_data.specs.NameLists.{AreListedNames}
 use Rattle.dnw_zone_data.specs.PrefixLists.{ArePrefixes}
 use Rattle.dnw_zone_data.specs.TypeLists.{AreTypes, IsTypeField}
 use Rattle.dnw_zone_data.specs.ParamLists.{AreParams}
@@ -127,7 +127,7 @@ abbrev pub AreList : Option NameValue → ListKind → List ℕ → FieldValue �
 AreList origin lists.Texts left value = AreTexts left value
 AreList origin lists.Types left value = AreTypes left value
 AreList origin lists.Params left value = AreParams left value
-AreList origin lists.Names left value = AreNames origin left value
+AreList origin lists.Names left value = AreListedNames origin left value
 AreList origin lists.Prefixes left value = ArePrefixes left value
 
 -- all words are a field of this kind
@@ -145,8 +145,8 @@ AreThree origin kind first second third value = ⊥
 -- the first three words of a text are a field of this kind, and this is after them
 abbrev pub ReadsThree : Option NameValue → Kind → List ℕ → FieldValue → List ℕ → Type 0
 ReadsThree origin kind left value rest =
-    let second = next_word left in
-    let third = next_word second in
+    let second = second_word_on left in
+    let third = second_word_on second in
     AreThree origin kind (word left) (word second) (word third) value × (rest ≡ after_word third)
 
 -- ---- fields

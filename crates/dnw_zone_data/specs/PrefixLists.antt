@@ -8,8 +8,8 @@ use Rattle.dnw_zone_data.specs.Words.{after_spaces, word, after_word}
 -- ---- printing
 
 -- how many octets the first prefix has: four, and those of its address
-abbrev pub prefix_size : List ℕ → ℕ
-prefix_size octets = 4 + slice_index octets 3 % 128
+abbrev pub first_prefix_size : List ℕ → ℕ
+first_prefix_size octets = 4 + slice_index octets 3 % 128
 
 -- a text after a space, and others after it, if there are both
 abbrev pub spaced_before : Option (List ℕ) → Option (List ℕ) → Option (List ℕ)
@@ -22,8 +22,8 @@ prefixes_within n [] = Some []
 prefixes_within zero (o ∷ octets) = None
 prefixes_within (suc n) (o ∷ octets) =
     let all = o ∷ octets in
-    if nat_le (prefix_size all) (length all)
-    then spaced_before (prefix_text (take (prefix_size all) all)) (prefixes_within n (drop (prefix_size all) all))
+    if nat_le (first_prefix_size all) (length all)
+    then spaced_before (prefix_text (take (first_prefix_size all) all)) (prefixes_within n (drop (first_prefix_size all) all))
     else None
 
 -- The text is that of the prefixes, each after a space.

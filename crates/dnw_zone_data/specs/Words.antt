@@ -51,8 +51,8 @@ abbrev pub after_word : List ℕ → List ℕ
 after_word text = drop (word_len text) text
 
 -- a text from its second word on
-abbrev pub next_word : List ℕ → List ℕ
-next_word text = after_spaces (after_word text)
+abbrev pub second_word_on : List ℕ → List ℕ
+second_word_on text = after_spaces (after_word text)
 
 -- `*` asks for all types, or all classes: a QTYPE and a QCLASS, and no type or class of a record (RFC 1035, sections 3.2.3 and 3.2.5)
 abbrev pub is_asterisk : List ℕ → Bool

@@ -12,7 +12,7 @@ ghost use Rattle.dnw_name_text.specs.NameTexts.{full_name_text};
 ghost use Rattle.dnw_zone_values.specs.Inside.Steps.{PushesOne};
 ghost use Rattle.dnw_zone_values.specs.Numbers.{max_u8, IsNumberText};
 ghost use Rattle.dnw_zone_data.specs.Appending.{Appended, AppendsOne};
-ghost use Rattle.dnw_zone_data.specs.Gateways.{identity_wire, AreShape, AreTagAndKey, IsEnd, IsGateway, IsIdentity, IsRelay, IsShape, PrintsEnd, PrintsGateway, PrintsIdentity, PrintsRelay, PrintsShaped};
+ghost use Rattle.dnw_zone_data.specs.Gateways.{identity_wire, AreShape, AreTagAndKey, IsGatewayEnd, IsGateway, IsIdentity, IsRelay, IsShape, PrintsEnd, PrintsGateway, PrintsIdentity, PrintsRelay, PrintsShaped};
 ghost use Rattle.dnw_zone_data.specs.Parsing.{SpellsOctets};
 
 use crate::location::{parse_location, write_location};
@@ -127,7 +127,7 @@ fn push_end(
     origin: Option<&Name>,
     out: &mut Vec<u8>,
 ) -> Result<bool, AllocError>
-    ensures { IfOk result (PushesOne (IsEnd (option_copied origin.entry) end_type word.now) out.old.items out.new.items) }
+    ensures { IfOk result (PushesOne (IsGatewayEnd (option_copied origin.entry) end_type word.now) out.old.items out.new.items) }
 {
     match end_type {
         0 => Ok(word == NONE),

@@ -3,7 +3,7 @@ ghost use Rattle.std.specs.Prelude.{◌≡◌, ◌≤◌, ◌++◌, ℕ, List, [
 ghost use Rattle.std.specs.Option.{option_copied};
 ghost use Rattle.dnw_base.specs.Names.{AreLabels, wire};
 ghost use Rattle.dnw_zone_data.specs.Appending.{Appended, AppendedInPart, AppendsOne};
-ghost use Rattle.dnw_zone_data.specs.NameLists.{AreNames, PrintsNames};
+ghost use Rattle.dnw_zone_data.specs.NameLists.{AreListedNames, PrintsNames};
 
 use crate::name::{append_name, write_name};
 use crate::words::{after_spaces, split_word};
@@ -20,7 +20,7 @@ pub(crate) fn parse_names(
     origin: Option<&Name>,
     out: &mut Vec<u8>,
 ) -> Result<bool, AllocError>
-    ensures { IfOk result (AppendsOne (AreNames (option_copied origin.entry) text.now) out.old.items out.new.items) }
+    ensures { IfOk result (AppendsOne (AreListedNames (option_copied origin.entry) text.now) out.old.items out.new.items) }
 {
     let mut left = after_spaces(text);
     'names: while !left.is_empty() {

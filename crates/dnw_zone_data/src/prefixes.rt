@@ -1,6 +1,6 @@
 //! Lists of address prefixes (RFC 3123, section 5).
 ghost use Rattle.std.specs.Prelude.{◌≡◌, IfOk, string_bytes};
-ghost use Rattle.dnw_zone_data.specs.PrefixLists.{prefix_size, ArePrefixes, PrintsPrefixes};
+ghost use Rattle.dnw_zone_data.specs.PrefixLists.{first_prefix_size, ArePrefixes, PrintsPrefixes};
 ghost use Rattle.dnw_zone_data.specs.Appending.{Appended, AppendedInPart, AppendsOne};
 ghost use Rattle.dnw_zone_values.specs.Inside.Steps.{PushesOne};
 ghost use Rattle.dnw_zone_values.specs.Prefixes.{IsPrefixText};
@@ -61,7 +61,7 @@ fn push_prefixes(octets: &[u8], out: &mut String) -> Result<bool, AllocError>
 {
     let mut left = octets;
     'prefixes: while !left.is_empty() {
-        let Some((own, after)) = left.split_at_checked(prefix_size(left)) else {
+        let Some((own, after)) = left.split_at_checked(first_prefix_size(left)) else {
             return Ok(false);
         };
         out.push_str(" ")?;
@@ -74,8 +74,8 @@ fn push_prefixes(octets: &[u8], out: &mut String) -> Result<bool, AllocError>
 }
 
 /// Returns the number of octets of the first prefix.
-fn prefix_size(octets: &[u8]) -> usize
-    ensures { result ≡ prefix_size octets.now }
+fn first_prefix_size(octets: &[u8]) -> usize
+    ensures { result ≡ first_prefix_size octets.now }
 {
     match octets {
         [_, _, _, count, ..] => HEAD + usize::from(*count % NEGATION),

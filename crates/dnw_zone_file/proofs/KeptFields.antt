@@ -41,7 +41,7 @@ use Rattle.dnw_zone_data.specs.Gateways.{PrintsEnd, PrintsShaped, identity_wire,
 use Rattle.dnw_zone_data.specs.Generic.{generic_text, hex_part}
 use Rattle.dnw_zone_data.specs.NameLists.{names_text}
 use Rattle.dnw_zone_data.specs.Printing.{Prints, PrintsFields, base64_part, strings_text}
-use Rattle.dnw_zone_data.specs.PrefixLists.{prefix_size, prefixes_within}
+use Rattle.dnw_zone_data.specs.PrefixLists.{first_prefix_size, prefixes_within}
 use Rattle.dnw_zone_data.specs.TypeLists.{code_text, codes_text, codes_within, is_window}
 use Rattle.dnw_zone_data.proofs.CodesWithin.{Within, octets_within}
 use Rattle.dnw_zone_data.proofs.DataBack.{data_fit}
@@ -51,7 +51,7 @@ use Rattle.dnw_zone_data.proofs.FieldsBack.{dotted, first, type_plain}
 use Rattle.dnw_zone_data.proofs.LocatorsBack.{locator_plain, nsap_plain}
 use Rattle.dnw_zone_data.proofs.PrefixListsBack.{prefix_plain, spaced_parts}
 use Rattle.dnw_zone_data.proofs.LocationsBack.{AreMarks, location_spaced}
-use Rattle.dnw_zone_values.specs.Locations.{spaced as spaced_words}
+use Rattle.dnw_zone_values.specs.Locations.{words_text}
 use Rattle.dnw_zone_data.proofs.Plain.{all_plain, decimal_plain, hex_plain, is_plain, plain_by_tests}
 use Rattle.dnw_zone_data.proofs.WordsBack.{eight_fit, six_fit}
 use Rattle.dnw_zone_record.specs.RecordLines.{spaced}
@@ -187,7 +187,7 @@ prefixes_kept n [] text h print = let none : [] ≡ text = cc in subst (λ (t : 
 prefixes_kept zero (o ∷ own) text h print = absurd cc
 prefixes_kept (suc n) (o ∷ own) text h print =
     let all = o ∷ own in
-    let size = prefix_size all in
+    let size = first_prefix_size all in
     elim (cases_Bool (nat_le size (length all))) [
       | inr other ↦ let wrong = rw other at print in absurd cc
       | inl fits ↦
@@ -220,10 +220,10 @@ end_kept type own text h print = elim (end_word type own text h print) [
   | inr is ↦ subst (λ (t : List ℕ). Keeps Words t Words) (sym is.2) (keeps_name is.0 is.1)
 ]
 
-marks_kept : (words : List (List ℕ)) → AreMarks words → Keeps Words (spaced_words words) Words
+marks_kept : (words : List (List ℕ)) → AreMarks words → Keeps Words (words_text words) Words
 marks_kept [] h = keeps_none Words
 marks_kept (w ∷ words) (some, plain, more) =
-    keeps_both (32 ∷ w) (spaced_words words) Words Words Words (keeps_spaced w (keeps_plain w plain)) (marks_kept words more)
+    keeps_both (32 ∷ w) (words_text words) Words Words Words (keeps_spaced w (keeps_plain w plain)) (marks_kept words more)
 
 shape_kept : (shape : Shape) (own text : List ℕ) → IsOctets own → PrintsShaped shape own text → Keeps Words text Words
 shape_kept Location own text h print =

@@ -4,7 +4,7 @@ use Rattle.std.specs.Prelude.{Option, MatchOption}
 use Rattle.std.proofs.lemmas.List.Concat.{flat_map-append}
 use Rattle.dnw_zone_values.specs.declared.location.Axis.{Axis}
 use Rattle.dnw_zone_values.specs.declared.location.Location.{Location}
-use Rattle.dnw_zone_values.specs.Locations.{is_letter, spaced, with_sizes, AreSizes, BeginWithAngle, IsAngle}
+use Rattle.dnw_zone_values.specs.Locations.{is_letter, words_text, with_sizes, AreSizes, BeginWithAngle, IsAngle}
 
 abbrev pub texts : List (Bor (List ℕ)) → List (List ℕ)
 texts words = map (λ w. w.now) words
@@ -83,8 +83,8 @@ too_many (a ∷ b ∷ c ∷ d ∷ e ∷ words) l many are = are
 
 -- ---- text
 
-pub one_after_another : (old a b c d e f : List ℕ) (x y : List (List ℕ)) (altitude size horizontal vertical : List ℕ) → a ≡ old ++ spaced x → b ≡ a ++ spaced y
+pub one_after_another : (old a b c d e f : List ℕ) (x y : List (List ℕ)) (altitude size horizontal vertical : List ℕ) → a ≡ old ++ words_text x → b ≡ a ++ words_text y
     → c ≡ b ++ 32 ∷ altitude → d ≡ c ++ 32 ∷ size → e ≡ d ++ 32 ∷ horizontal → f ≡ e ++ 32 ∷ vertical
-    → f ≡ old ++ spaced (x ++ y ++ altitude ∷ size ∷ horizontal ∷ vertical ∷ [])
+    → f ≡ old ++ words_text (x ++ y ++ altitude ∷ size ∷ horizontal ∷ vertical ∷ [])
 one_after_another old a b c d e f x y altitude size horizontal vertical ea eb ec ed ee ef =
     rw (ef, ee, ed, ec, eb, ea) (simp (append_assoc, flat_map-append, append-nil))

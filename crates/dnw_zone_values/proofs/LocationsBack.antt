@@ -15,7 +15,7 @@ use Rattle.dnw_zone_values.specs.declared.location.Axis.{Axis}
 use Rattle.dnw_zone_values.specs.declared.location.Axis.TheVariants.{Latitude, Longitude}
 use Rattle.dnw_zone_values.specs.declared.location.Location.{Location}
 use Rattle.dnw_zone_values.specs.Numbers.{IsNumberText}
-use Rattle.dnw_zone_values.specs.Locations.{after_point, angle_words, arc, before_point, degree, depth, hundredths_text, is_angle, is_letter, is_point, letter, max_degrees, max_size, minute, origin, positive_letter, negative_letter, precision, altitude_text, size_of, size_text, thousandths_text, without_unit, has_version, is_location, is_precision, location_at, location_wire, location_words, number_at, AreLocationWords, BeginWithAngle, IsAltitude, IsAngle, IsCentimetres, IsMetres, IsOnSide, IsScaled, IsSeconds, IsSize}
+use Rattle.dnw_zone_values.specs.Locations.{after_point, angle_words, arc, before_point, degree, depth, hundredths_text, is_angle, is_letter, is_point, letter, max_degrees, max_size, minute, origin, positive_letter, negative_letter, precision, altitude_text, size_of, size_text, thousandths_text, without_unit, has_version, is_location, is_precision, location_at, location_wire, location_words, part_at, AreLocationWords, BeginWithAngle, IsAltitude, IsAngle, IsCentimetres, IsMetres, IsOnSide, IsScaled, IsSeconds, IsSizeText}
 use Rattle.std.specs.Int.{w32, from_be_bytes, to_be_bytes}
 use Rattle.std.proofs.lemmas.Nat.{be_bytes_4}
 use Rattle.dnw_zone_values.specs.Octets.{IsOctets}
@@ -174,13 +174,13 @@ size_fits octet is =
     let first = and_parts (nat_le (size_of octet) max_size) (nat_lt (size_of octet) 100 || size_of octet % 100 == 0) parts.0 in
     (leb-true (size_of octet) max_size first.0, first.1, eqb-true (precision (size_of octet)) octet parts.1)
 
-size_by : (octet : ℕ) (own : List ℕ) → is_precision octet ≡ true → 48 ≤ slice_index (own ++ codes "m") 0 → IsCentimetres own (size_of octet) → IsSize (own ++ codes "m") octet
+size_by : (octet : ℕ) (own : List ℕ) → is_precision octet ≡ true → 48 ≤ slice_index (own ++ codes "m") 0 → IsCentimetres own (size_of octet) → IsSizeText (own ++ codes "m") octet
 size_by octet own is first metres =
     let (fits, whole, same) = size_fits octet is in
     let (are, sign) = plain_metres own (size_of octet) first metres in
     (size_of octet, are, (λ minus. let no : true ≡ false = sym minus ∙ sign in absurd cc), fits, sym same)
 
-pub size_back : (octet : ℕ) → is_precision octet ≡ true → IsSize (size_text octet) octet
+pub size_back : (octet : ℕ) → is_precision octet ≡ true → IsSizeText (size_text octet) octet
 size_back octet is =
     let (fits, whole, same) = size_fits octet is in
     elim (cases_Bool (nat_lt (size_of octet) 100)) [
@@ -269,7 +269,7 @@ four_back a b c d ha hb hc hd = (be_bytes_4 (a ∷ b ∷ c ∷ d ∷ []) _ refl 
     each (suc (suc (suc zero))) = hd
     each (suc (suc (suc (suc i)))) = omega arith
 
-pub wire_back : (own : List ℕ) → IsOctets own → has_version own ≡ true → (location_wire (location_at own) ≡ own) × (number_at own 12 < 2 ^ 32)
+pub wire_back : (own : List ℕ) → IsOctets own → has_version own ≡ true → (location_wire (location_at own) ≡ own) × (part_at own 12 < 2 ^ 32)
 wire_back (v ∷ s ∷ x ∷ y ∷ a ∷ b ∷ c ∷ d ∷ e ∷ f ∷ g ∷ h ∷ i ∷ j ∷ k ∷ l ∷ []) octets is =
     let version : v ≡ 0 = eqb-true v 0 is in
     let first = four_back a b c d (octets 4) (octets 5) (octets 6) (octets 7) in

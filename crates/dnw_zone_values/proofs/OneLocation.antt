@@ -5,7 +5,7 @@ use Rattle.dnw_zone_values.specs.declared.location.Axis.{Axis}
 use Rattle.dnw_zone_values.specs.declared.location.Axis.TheVariants.{Latitude, Longitude}
 use Rattle.dnw_zone_values.specs.declared.location.Location.{Location}
 use Rattle.dnw_zone_values.specs.Numbers.{IsNumberText}
-use Rattle.dnw_zone_values.specs.Locations.{positive_letter, negative_letter, max_degrees, degree, minute, is_letter, with_minutes, with_sizes, precision, AreLocationWords, AreSizes, BeginWithAngle, IsAltitude, IsAngle, IsAngleFirst, IsMetres, IsOnSide, IsSeconds, IsSize}
+use Rattle.dnw_zone_values.specs.Locations.{positive_letter, negative_letter, max_degrees, degree, minute, is_letter, with_minutes, with_sizes, precision, AreLocationWords, AreSizes, BeginWithAngle, IsAltitude, IsAngle, IsAngleFirst, IsMetres, IsOnSide, IsSeconds, IsSizeText}
 
 -- ---- angles
 
@@ -61,7 +61,7 @@ one_altitude text a b (c, metres, few, inl x) (d, also, less, inr y) = let no : 
 one_altitude text a b (c, metres, few, inr x) (d, also, less, inl y) = let no : true ≡ false = sym y.0 ∙ x.0 in cc
 one_altitude text a b (c, metres, few, inr x) (d, also, less, inr y) = let e = one_metres text c d metres also in omega (arith, e, x.1, y.1)
 
-one_size : (text : List ℕ) (a b : ℕ) → IsSize text a → IsSize text b → a ≡ b
+one_size : (text : List ℕ) (a b : ℕ) → IsSizeText text a → IsSizeText text b → a ≡ b
 one_size text a b (c, metres, zero, few, x) (d, also, none, less, y) = x ∙ ap precision (one_metres text c d metres also) ∙ sym y
 
 same_location : (a b : Location) → a.size ≡ b.size → a.horizontal ≡ b.horizontal → a.vertical ≡ b.vertical → a.latitude ≡ b.latitude → a.longitude ≡ b.longitude → a.altitude ≡ b.altitude → a ≡ b

@@ -16,7 +16,7 @@ use Rattle.std.proofs.lemmas.Str.{IsUtf8-from_ascii}
 use Rattle.std.proofs.lemmas.Str.Ascii.{IsAscii-nil, IsAscii-cons}
 use Rattle.dnw_zone_values.specs.Numbers.{max_u16, IsNumberText}
 use Rattle.dnw_zone_values.specs.Octets.{IsOctets}
-use Rattle.dnw_zone_values.specs.Prefixes.{colon, slash, before, after, after_negation, is_negation, without_zeros, counted_with, prefix_wire, padded, ends_well, is_shown, is_shown_of, negation_text, address_text, IsPrefixOf, IsFamilyText, IsPrefixText, PrefixesComeBack}
+use Rattle.dnw_zone_values.specs.Prefixes.{colon, slash, before, after, after_negation, is_negation, without_zeros, counted_with, prefix_wire, with_zeros, ends_in_no_zero, is_shown, is_shown_of, negation_text, prefix_address_text, IsPrefixOf, IsFamilyText, IsPrefixText, PrefixTextsComeBack}
 use Rattle.dnw_zone_values.proofs.ComeBack.{numbers}
 use Rattle.dnw_zone_values.proofs.ParamTextsBack.{octets_fit, segments_fit, halves}
 use Rattle.dnw_zone_values.proofs.PrefixesBack.{is_other, before_at, after_at, padded_back}
@@ -85,10 +85,10 @@ padding_fit [] n h i = zeros_fit n i
 padding_fit (x ∷ xs) n h zero = h 0
 padding_fit (x ∷ xs) n h (suc i) = padding_fit xs n (λ j. h (suc j)) i
 
-pub padded_fit : (size : ℕ) (xs : List ℕ) → IsOctets xs → IsOctets (padded size xs)
+pub padded_fit : (size : ℕ) (xs : List ℕ) → IsOctets xs → IsOctets (with_zeros size xs)
 padded_fit size xs h = padding_fit xs (size - length xs) h
 
-pub padded_size : (size : ℕ) (xs : List ℕ) → length xs ≤ size → length (padded size xs) ≡ size
+pub padded_size : (size : ℕ) (xs : List ℕ) → length xs ≤ size → length (with_zeros size xs) ≡ size
 padded_size size xs few = omega (arith, few, length-append xs (replicate (size - length xs) 0), length-replicate {A = ℕ} (size - length xs) 0)
 
 -- ---- the parts of a text
@@ -151,11 +151,11 @@ after_head : (a b c d : ℕ) (xs : List ℕ) → IsOctets (a ∷ b ∷ c ∷ d �
 after_head a b c d xs h i = h (suc (suc (suc (suc i))))
 
 ipv4_of : (a b c d : ℕ) (xs : List ℕ) → IsOctets (a ∷ b ∷ c ∷ d ∷ xs) → a * 256 + b ≡ 1 → d % 128 ≡ length xs → is_shown_of 1 c xs ≡ true
-    → IsPrefixOf 1 (nat_le 128 d) (ipv4_text (padded 4 xs)) (decimal c) (a ∷ b ∷ c ∷ d ∷ xs)
+    → IsPrefixOf 1 (nat_le 128 d) (ipv4_text (with_zeros 4 xs)) (decimal c) (a ∷ b ∷ c ∷ d ∷ xs)
 ipv4_of a b c d xs h one count shown =
-    let parts = and_parts (nat_le c 32) (nat_le (length xs) 4 && ends_well xs) shown in
-    let sizes = and_parts (nat_le (length xs) 4) (ends_well xs) parts.1 in
-    let o = padded 4 xs in
+    let parts = and_parts (nat_le c 32) (nat_le (length xs) 4 && ends_in_no_zero xs) shown in
+    let sizes = and_parts (nat_le (length xs) 4) (ends_in_no_zero xs) parts.1 in
+    let o = with_zeros 4 xs in
     let fit = padded_fit 4 xs (after_head a b c d xs h) in
     let is = IsDotted-ipv4_text o (padded_size 4 xs (leb-true (length xs) 4 sizes.0)) fit in
     let address : Ipv4Addr = record { octets = o } in
@@ -163,11 +163,11 @@ ipv4_of a b c d xs h one count shown =
     (c, o, inl (refl, address, address_utf8 (ipv4_text o) (ipv4_address o fit), is, refl), (numbers 32 (omega arith) c (leb-true c 32 parts.0)).0, wire)
 
 ipv6_of : (a b c d : ℕ) (xs : List ℕ) → IsOctets (a ∷ b ∷ c ∷ d ∷ xs) → a * 256 + b ≡ 2 → d % 128 ≡ length xs → is_shown_of 2 c xs ≡ true
-    → IsPrefixOf 2 (nat_le 128 d) (ipv6_text (segments_of (padded 16 xs))) (decimal c) (a ∷ b ∷ c ∷ d ∷ xs)
+    → IsPrefixOf 2 (nat_le 128 d) (ipv6_text (segments_of (with_zeros 16 xs))) (decimal c) (a ∷ b ∷ c ∷ d ∷ xs)
 ipv6_of a b c d xs h two count shown =
-    let parts = and_parts (nat_le c 128) (nat_le (length xs) 16 && ends_well xs) shown in
-    let sizes = and_parts (nat_le (length xs) 16) (ends_well xs) parts.1 in
-    let o = padded 16 xs in
+    let parts = and_parts (nat_le c 128) (nat_le (length xs) 16 && ends_in_no_zero xs) shown in
+    let sizes = and_parts (nat_le (length xs) 16) (ends_in_no_zero xs) parts.1 in
+    let o = with_zeros 16 xs in
     let s = segments_of o in
     let fit = padded_fit 16 xs (after_head a b c d xs h) in
     let segments = segments_fit o fit in
@@ -181,7 +181,7 @@ ipv6_of a b c d xs h two count shown =
 
 -- the text of a prefix that is shown, by its parts
 shown_back : (a b c d : ℕ) (xs : List ℕ) → IsOctets (a ∷ b ∷ c ∷ d ∷ xs) → is_shown (a ∷ b ∷ c ∷ d ∷ xs) ≡ true
-    → IsPrefixText (negation_text (nat_le 128 d) ++ (address_text (a * 256 + b) xs ++ slash ∷ decimal c)) (a ∷ b ∷ c ∷ d ∷ xs)
+    → IsPrefixText (negation_text (nat_le 128 d) ++ (prefix_address_text (a * 256 + b) xs ++ slash ∷ decimal c)) (a ∷ b ∷ c ∷ d ∷ xs)
 shown_back a b c d xs h whole =
     let own = a ∷ b ∷ c ∷ d ∷ xs in
     let f = a * 256 + b in
@@ -194,18 +194,18 @@ shown_back a b c d xs h whole =
       | inl one ↦
           let e = eqb-true f 1 one in
           let shown : is_shown_of 1 c xs ≡ true = subst (λ (k : ℕ). is_shown_of k c xs ≡ true) e v.1 in
-          subst (λ (k : ℕ). IsPrefixText (negation_text n ++ (address_text k xs ++ slash ∷ decimal c)) own) (sym e)
-          (ipv4_parts n (ipv4_text (padded 4 xs)) (decimal c) own (ipv4_address (padded 4 xs) (padded_fit 4 xs (after_head a b c d xs h))) (ipv4_of a b c d xs h e count shown))
+          subst (λ (k : ℕ). IsPrefixText (negation_text n ++ (prefix_address_text k xs ++ slash ∷ decimal c)) own) (sym e)
+          (ipv4_parts n (ipv4_text (with_zeros 4 xs)) (decimal c) own (ipv4_address (with_zeros 4 xs) (padded_fit 4 xs (after_head a b c d xs h))) (ipv4_of a b c d xs h e count shown))
       | inr other ↦
           let two : (f == 2) ≡ true = rw other at v.0 in
           let e = eqb-true f 2 two in
           let shown : is_shown_of 2 c xs ≡ true = subst (λ (k : ℕ). is_shown_of k c xs ≡ true) e v.1 in
-          let s = segments_of (padded 16 xs) in
-          subst (λ (k : ℕ). IsPrefixText (negation_text n ++ (address_text k xs ++ slash ∷ decimal c)) own) (sym e)
-          (ipv6_parts n (ipv6_text s) (decimal c) own (ipv6_address s (segments_fit (padded 16 xs) (padded_fit 16 xs (after_head a b c d xs h)))) (ipv6_of a b c d xs h e count shown))
+          let s = segments_of (with_zeros 16 xs) in
+          subst (λ (k : ℕ). IsPrefixText (negation_text n ++ (prefix_address_text k xs ++ slash ∷ decimal c)) own) (sym e)
+          (ipv6_parts n (ipv6_text s) (decimal c) own (ipv6_address s (segments_fit (with_zeros 16 xs) (padded_fit 16 xs (after_head a b c d xs h)))) (ipv6_of a b c d xs h e count shown))
     ]
 
-pub prefix_back : PrefixesComeBack
+pub prefix_back : PrefixTextsComeBack
 prefix_back [] text h e = absurd cc
 prefix_back (a ∷ []) text h e = absurd cc
 prefix_back (a ∷ b ∷ []) text h e = absurd cc
@@ -213,7 +213,7 @@ prefix_back (a ∷ b ∷ c ∷ []) text h e = absurd cc
 prefix_back (a ∷ b ∷ c ∷ d ∷ xs) text h e = elim (cases_Bool (is_shown (a ∷ b ∷ c ∷ d ∷ xs))) [
   | inl whole ↦
       let w = rw whole at e in
-      let same : negation_text (nat_le 128 d) ++ (address_text (a * 256 + b) xs ++ slash ∷ decimal c) ≡ text = cc in
+      let same : negation_text (nat_le 128 d) ++ (prefix_address_text (a * 256 + b) xs ++ slash ∷ decimal c) ≡ text = cc in
       subst (λ (t : List ℕ). IsPrefixText t (a ∷ b ∷ c ∷ d ∷ xs)) same (shown_back a b c d xs h whole)
   | inr other ↦ let wrong = rw other at e in absurd cc
 ]

@@ -8,7 +8,7 @@ use Rattle.std.proofs.NetLemmas.Theorems.{IsIpv4Text_unique, IsIpv6Text_unique}
 use Rattle.std.proofs.lemmas.Bool.{and_parts}
 use Rattle.std.proofs.lemmas.List.{take_at}
 use Rattle.dnw_zone_values.specs.Numbers.{max_u16, IsNumberText}
-use Rattle.dnw_zone_values.specs.Prefixes.{colon, slash, before, after, after_negation, is_negation, without_zeros, prefix_wire, padded, ends_well, family_of, negates, negation_text, address_text, shown_text, IsAddressText, IsPrefixOf, IsFamilyText, IsPrefixText, PrefixesAreUnambiguous}
+use Rattle.dnw_zone_values.specs.Prefixes.{colon, slash, before, after, after_negation, is_negation, without_zeros, prefix_wire, with_zeros, ends_in_no_zero, prefix_family, negates, negation_text, prefix_address_text, shown_prefix_text, IsAddressText, IsPrefixOf, IsFamilyText, IsPrefixText, PrefixesAreUnambiguous}
 use Rattle.dnw_zone_values.specs.Inside.Steps.{PushesOne}
 
 -- ---- a text is one prefix at most
@@ -41,14 +41,14 @@ no_zeros zero = refl
 no_zeros (suc n) = rw (no_zeros n) refl
 
 -- an octet that is not zero ends them
-last_kept : (o : ℕ) (xs : List ℕ) → ends_well (o ∷ xs) ≡ true → (without_zeros xs ≡ xs) → without_zeros (o ∷ xs) ≡ o ∷ xs
+last_kept : (o : ℕ) (xs : List ℕ) → ends_in_no_zero (o ∷ xs) ≡ true → (without_zeros xs ≡ xs) → without_zeros (o ∷ xs) ≡ o ∷ xs
 last_kept o [] h e = let no : (o == 0) ≡ false = grind (arith, h) in rw no refl
 last_kept o (x ∷ xs) h e = rw e (grind arith)
 
-ends_on : (o x : ℕ) (xs : List ℕ) → ends_well (o ∷ x ∷ xs) ≡ true → ends_well (x ∷ xs) ≡ true
+ends_on : (o x : ℕ) (xs : List ℕ) → ends_in_no_zero (o ∷ x ∷ xs) ≡ true → ends_in_no_zero (x ∷ xs) ≡ true
 ends_on o x xs h = h
 
-pub kept : (xs : List ℕ) → ends_well xs ≡ true → without_zeros xs ≡ xs
+pub kept : (xs : List ℕ) → ends_in_no_zero xs ≡ true → without_zeros xs ≡ xs
 kept [] h = refl
 kept (o ∷ []) h = last_kept o [] h refl
 kept (o ∷ x ∷ xs) h = last_kept o (x ∷ xs) h (kept (x ∷ xs) (ends_on o x xs h))
@@ -58,7 +58,7 @@ pub zeros_after : (xs : List ℕ) (n : ℕ) → without_zeros (xs ++ replicate n
 zeros_after [] n = no_zeros n
 zeros_after (o ∷ xs) n = rw (zeros_after xs n) refl
 
-pub padded_back : (size : ℕ) (xs : List ℕ) → ends_well xs ≡ true → without_zeros (padded size xs) ≡ xs
+pub padded_back : (size : ℕ) (xs : List ℕ) → ends_in_no_zero xs ≡ true → without_zeros (with_zeros size xs) ≡ xs
 padded_back size xs h = zeros_after xs (size - length xs) ∙ kept xs h
 
 -- ---- parts of a text
@@ -89,7 +89,7 @@ after_at c xs ys h =
 pub zero_last : (xs rest : List ℕ) (o : ℕ) → xs ≡ rest ++ o ∷ [] → o ≡ 0 → without_zeros rest ≡ without_zeros xs
 zero_last xs rest o e z = rw (e, z) (sym (zeros_after rest 1))
 
-last_well : (rest : List ℕ) (o : ℕ) → (o ≡ 0 → ⊥) → ends_well (rest ++ o ∷ []) ≡ true
+last_well : (rest : List ℕ) (o : ℕ) → (o ≡ 0 → ⊥) → ends_in_no_zero (rest ++ o ∷ []) ≡ true
 last_well [] o h = grind arith
 last_well (x ∷ []) o h = grind arith
 last_well (x ∷ y ∷ rest) o h = last_well (y ∷ rest) o h
@@ -132,15 +132,15 @@ no_family family n address size own a b is = elim is.2 [
   | inr x ↦ b x.0
 ]
 
-three_exact : (own old s1 s2 s3 : List ℕ) → s1 ≡ old ++ negation_text (negates own) → s2 ≡ s1 ++ address_text (family_of own) (drop 4 own)
-    → s3 ≡ s2 ++ slash ∷ decimal (slice_index own 2) → s3 ≡ old ++ shown_text own
+three_exact : (own old s1 s2 s3 : List ℕ) → s1 ≡ old ++ negation_text (negates own) → s2 ≡ s1 ++ prefix_address_text (prefix_family own) (drop 4 own)
+    → s3 ≡ s2 ++ slash ∷ decimal (slice_index own 2) → s3 ≡ old ++ shown_prefix_text own
 three_exact own old s1 s2 s3 d e g =
-    g ∙ ap (λ (t : List ℕ). t ++ slash ∷ decimal (slice_index own 2)) (e ∙ ap (λ (t : List ℕ). t ++ address_text (family_of own) (drop 4 own)) d)
-    ∙ append_assoc (old ++ negation_text (negates own)) (address_text (family_of own) (drop 4 own)) (slash ∷ decimal (slice_index own 2))
-    ∙ append_assoc old (negation_text (negates own)) (address_text (family_of own) (drop 4 own) ++ slash ∷ decimal (slice_index own 2))
+    g ∙ ap (λ (t : List ℕ). t ++ slash ∷ decimal (slice_index own 2)) (e ∙ ap (λ (t : List ℕ). t ++ prefix_address_text (prefix_family own) (drop 4 own)) d)
+    ∙ append_assoc (old ++ negation_text (negates own)) (prefix_address_text (prefix_family own) (drop 4 own)) (slash ∷ decimal (slice_index own 2))
+    ∙ append_assoc old (negation_text (negates own)) (prefix_address_text (prefix_family own) (drop 4 own) ++ slash ∷ decimal (slice_index own 2))
 
-pub three_parts : (own old s1 s2 s3 xs : List ℕ) (n : Bool) (f : ℕ) → n ≡ negates own → f ≡ family_of own → xs ≡ drop 4 own → s1 ≡ old ++ negation_text n
-    → s2 ≡ s1 ++ address_text f xs → s3 ≡ s2 ++ slash ∷ decimal (slice_index own 2) → s3 ≡ old ++ shown_text own
+pub three_parts : (own old s1 s2 s3 xs : List ℕ) (n : Bool) (f : ℕ) → n ≡ negates own → f ≡ prefix_family own → xs ≡ drop 4 own → s1 ≡ old ++ negation_text n
+    → s2 ≡ s1 ++ prefix_address_text f xs → s3 ≡ s2 ++ slash ∷ decimal (slice_index own 2) → s3 ≡ old ++ shown_prefix_text own
 three_parts own old s1 s2 s3 xs n f a b c d e g =
     three_exact own old s1 s2 s3 (d ∙ ap (λ (m : Bool). old ++ negation_text m) a)
-    (e ∙ ap (λ (k : ℕ). s1 ++ address_text k xs) b ∙ ap (λ (ys : List ℕ). s1 ++ address_text (family_of own) ys) c) g
+    (e ∙ ap (λ (k : ℕ). s1 ++ prefix_address_text k xs) b ∙ ap (λ (ys : List ℕ). s1 ++ prefix_address_text (prefix_family own) ys) c) g

@@ -124,8 +124,8 @@ abbrev pub precision : ℕ → ℕ
 precision n = 16 * (slice_index (decimal n) 0 - 48) + (length (decimal n) - 1)
 
 -- a size, or a precision; only zero may have a minus
-abbrev pub IsSize : List ℕ → ℕ → Type 0
-IsSize text octet =
+abbrev pub IsSizeText : List ℕ → ℕ → Type 0
+IsSizeText text octet =
     (c : ℕ) × IsMetres text c × (starts_with_minus text ≡ true → c ≡ 0) × (c ≤ max_size) × (octet ≡ precision c)
 
 -- a size that is left out is one metre, a horizontal precision 10,000 metres, a vertical one 10 metres
@@ -137,7 +137,7 @@ with_sizes words = words
 
 abbrev pub AreSizes : List (List ℕ) → Location → Type 0
 AreSizes (altitude ∷ size ∷ horizontal ∷ vertical ∷ []) l =
-    IsAltitude altitude l.altitude × IsSize size l.size × IsSize horizontal l.horizontal × IsSize vertical l.vertical
+    IsAltitude altitude l.altitude × IsSizeText size l.size × IsSizeText horizontal l.horizontal × IsSizeText vertical l.vertical
 AreSizes words l = ⊥
 
 -- ---- locations
@@ -155,8 +155,8 @@ location_wire l =
 
 -- ---- printing
 
-abbrev pub number_at : List ℕ → ℕ → ℕ
-number_at own start = from_be_bytes w32 (slice_range own start (start + 4))
+abbrev pub part_at : List ℕ → ℕ → ℕ
+part_at own start = from_be_bytes w32 (slice_range own start (start + 4))
 
 -- the location of 16 octets
 abbrev pub location_at : List ℕ → Location
@@ -165,9 +165,9 @@ location_at own =
       size = slice_index own 1;
       horizontal = slice_index own 2;
       vertical = slice_index own 3;
-      latitude = number_at own 4;
-      longitude = number_at own 8;
-      altitude = number_at own 12;
+      latitude = part_at own 4;
+      longitude = part_at own 8;
+      altitude = part_at own 12;
     }
 
 -- a number on either side of the origin: the arc between them, and the letter of the side
@@ -204,11 +204,11 @@ location_words l =
     ++ altitude_text l.altitude ∷ size_text l.size ∷ size_text l.horizontal ∷ size_text l.vertical ∷ []
 
 -- words, each after a space
-abbrev pub spaced : List (List ℕ) → List ℕ
-spaced words = flat_map (λ w. 32 ∷ w) words
+abbrev pub words_text : List (List ℕ) → List ℕ
+words_text words = flat_map (λ w. 32 ∷ w) words
 
 abbrev pub location_text : Location → List ℕ
-location_text l = spaced (location_words l)
+location_text l = words_text (location_words l)
 
 -- an octet that a size is written as: a digit, and how many zeros are after it; after no digit but zero there are none
 abbrev pub is_precision : ℕ → Bool

@@ -31,14 +31,14 @@ address_size family = if family == 1 then 4 else 16
 abbrev pub longest_prefix : ℕ → ℕ
 longest_prefix family = if family == 1 then 32 else 128
 
-abbrev pub is_empty : List ℕ → Bool
-is_empty [] = true
-is_empty (o ∷ octets) = false
+abbrev pub has_none : List ℕ → Bool
+has_none [] = true
+has_none (o ∷ octets) = false
 
 -- octets without the zeros at their end
 abbrev pub without_zeros : List ℕ → List ℕ
 without_zeros [] = []
-without_zeros (o ∷ octets) = if o == 0 && is_empty (without_zeros octets) then [] else o ∷ without_zeros octets
+without_zeros (o ∷ octets) = if o == 0 && has_none (without_zeros octets) then [] else o ∷ without_zeros octets
 
 -- ---- parsing
 
@@ -87,49 +87,49 @@ IsPrefixText text own = IsFamilyText (is_negation text) (after_negation text) ow
 
 -- ---- printing
 
-abbrev pub family_of : List ℕ → ℕ
-family_of own = from_be_bytes w16 (slice_range own 0 2)
+abbrev pub prefix_family : List ℕ → ℕ
+prefix_family own = from_be_bytes w16 (slice_range own 0 2)
 
 abbrev pub negates : List ℕ → Bool
 negates own = nat_le 128 (slice_index own 3)
 
 -- the last octet is not zero, if there is one
-abbrev pub ends_well : List ℕ → Bool
-ends_well [] = true
-ends_well (o ∷ octets) = not (slice_index (o ∷ octets) (length octets) == 0)
+abbrev pub ends_in_no_zero : List ℕ → Bool
+ends_in_no_zero [] = true
+ends_in_no_zero (o ∷ octets) = not (slice_index (o ∷ octets) (length octets) == 0)
 
 -- the length of a prefix of a family, and the octets of its address, are not too many, and there are no zeros at the end
 abbrev pub is_shown_of : ℕ → ℕ → List ℕ → Bool
-is_shown_of family bits own = nat_le bits (longest_prefix family) && (nat_le (length own) (address_size family) && ends_well own)
+is_shown_of family bits own = nat_le bits (longest_prefix family) && (nat_le (length own) (address_size family) && ends_in_no_zero own)
 
 -- the octets are a prefix of IPv4 or IPv6
 abbrev pub is_shown : List ℕ → Bool
 is_shown own =
     nat_le 4 (length own)
-    && ((slice_index own 3 % 128 == length own - 4) && (((family_of own == 1) || (family_of own == 2)) && is_shown_of (family_of own) (slice_index own 2) (drop 4 own)))
+    && ((slice_index own 3 % 128 == length own - 4) && (((prefix_family own == 1) || (prefix_family own == 2)) && is_shown_of (prefix_family own) (slice_index own 2) (drop 4 own)))
 
 -- octets and zeros after them, so many
-abbrev pub padded : ℕ → List ℕ → List ℕ
-padded size own = own ++ replicate (size - length own) 0
+abbrev pub with_zeros : ℕ → List ℕ → List ℕ
+with_zeros size own = own ++ replicate (size - length own) 0
 
 -- the number of a family, and an address
-abbrev pub address_text : ℕ → List ℕ → List ℕ
-address_text family own = if family == 1 then codes "1:" ++ ipv4_text (padded 4 own) else codes "2:" ++ ipv6_text (segments_of (padded 16 own))
+abbrev pub prefix_address_text : ℕ → List ℕ → List ℕ
+prefix_address_text family own = if family == 1 then codes "1:" ++ ipv4_text (with_zeros 4 own) else codes "2:" ++ ipv6_text (segments_of (with_zeros 16 own))
 
 abbrev pub negation_text : Bool → List ℕ
 negation_text false = []
 negation_text true = negation ∷ []
 
-abbrev pub shown_text : List ℕ → List ℕ
-shown_text own = negation_text (negates own) ++ (address_text (family_of own) (drop 4 own) ++ slash ∷ decimal (slice_index own 2))
+abbrev pub shown_prefix_text : List ℕ → List ℕ
+shown_prefix_text own = negation_text (negates own) ++ (prefix_address_text (prefix_family own) (drop 4 own) ++ slash ∷ decimal (slice_index own 2))
 
 -- the text of a prefix, if it has one
 abbrev pub prefix_text : List ℕ → Option (List ℕ)
-prefix_text own = if is_shown own then Some (shown_text own) else None
+prefix_text own = if is_shown own then Some (shown_prefix_text own) else None
 
 -- What is printed of a prefix is parsed as it, and as no other.
-abbrev pub PrefixesComeBack : Type 0
-PrefixesComeBack = (own text : List ℕ) → IsOctets own → prefix_text own ≡ Some text → IsPrefixText text own
+abbrev pub PrefixTextsComeBack : Type 0
+PrefixTextsComeBack = (own text : List ℕ) → IsOctets own → prefix_text own ≡ Some text → IsPrefixText text own
 
 -- A text is one prefix at most.
 abbrev pub PrefixesAreUnambiguous : Type 0

@@ -13,7 +13,7 @@ ghost use Rattle.dnw_zone_values.specs.Times.{IsDateText, IsTimeText};
 ghost use Rattle.dnw_zone_values.specs.Tags.{IsTag, IsTagText};
 ghost use Rattle.dnw_zone_values.specs.Base32.{IsHash, base32_text, IsHashText};
 ghost use Rattle.dnw_zone_values.specs.Pairs.{IsIdentifier, pairs_text, IsPairsText};
-ghost use Rattle.dnw_zone_values.specs.Prefixes.{PrefixesAreUnambiguous, PrefixesComeBack};
+ghost use Rattle.dnw_zone_values.specs.Prefixes.{PrefixesAreUnambiguous, PrefixTextsComeBack};
 ghost use Rattle.dnw_zone_values.specs.Locators.{locator_text, IsLocatorText};
 ghost use Rattle.dnw_zone_values.specs.Nsap.{nsap_text, IsNsapText};
 
@@ -56,7 +56,7 @@ pub fn identifiers_come_back()
 
 /// Address prefixes that have a text round-trip, and a text is one prefix at most.
 pub fn prefixes_come_back()
-    ensures back { PrefixesComeBack }
+    ensures back { PrefixTextsComeBack }
     ensures one { PrefixesAreUnambiguous }
 {}
 

@@ -4,8 +4,8 @@ ghost use Rattle.std.specs.Str.Parse.{AllDigits, digits_value, starts_with_minus
 ghost use Rattle.std.specs.List.{position_or_len};
 ghost use Rattle.dnw_zone_values.specs.Numbers.{IsNumberText};
 ghost use Rattle.dnw_zone_values.specs.Locations.{is_point, before_point, after_point, IsScaled, max_degrees, positive_letter, negative_letter, degree, minute, origin, IsSeconds, IsOnSide, IsAngle, is_letter, BeginWithAngle};
-ghost use Rattle.dnw_zone_values.specs.Locations.{without_unit, IsCentimetres, IsMetres, IsAltitude, IsSize, precision, with_sizes, AreSizes, AreLocationWords, location_wire, location_at, arc, letter, hundredths_text, thousandths_text};
-ghost use Rattle.dnw_zone_values.specs.Locations.{angle_words, altitude_text, size_of, size_text, spaced, location_text, is_precision, is_angle, is_location, has_version, PrintsLocation};
+ghost use Rattle.dnw_zone_values.specs.Locations.{without_unit, IsCentimetres, IsMetres, IsAltitude, IsSizeText, precision, with_sizes, AreSizes, AreLocationWords, location_wire, location_at, arc, letter, hundredths_text, thousandths_text};
+ghost use Rattle.dnw_zone_values.specs.Locations.{angle_words, altitude_text, size_of, size_text, words_text, location_text, is_precision, is_angle, is_location, has_version, PrintsLocation};
 
 use crate::number::number_up_to;
 use std::alloc::AllocError;
@@ -340,7 +340,7 @@ fn altitude_of(text: &[u8]) -> Option<u32>
 
 /// Returns the octet of the size that a word is.
 fn size_of(text: &[u8]) -> Option<u8>
-    ensures { MatchOption result ((octet : ℕ) → ¬ (IsSize text.now octet)) (IsSize text.now) }
+    ensures { MatchOption result ((octet : ℕ) → ¬ (IsSizeText text.now octet)) (IsSizeText text.now) }
 {
     let centimetres = metres_of(text)?;
     if has_minus(text) && centimetres > 0 {
@@ -527,7 +527,7 @@ fn is_precision(octet: u8) -> bool
 
 /// Appends the words of an angle.
 fn write_angle(axis: Axis, number: u32, out: &mut String) -> Result<(), AllocError>
-    ensures { IfOk result (λ _. string_bytes out.new ≡ string_bytes out.old ++ spaced (angle_words axis number)) }
+    ensures { IfOk result (λ _. string_bytes out.new ≡ string_bytes out.old ++ words_text (angle_words axis number)) }
 {
     let arc = arc(number);
     write!(out, " {} {} ", arc / DEGREE, arc / MINUTE % 60)?;

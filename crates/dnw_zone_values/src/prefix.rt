@@ -3,7 +3,7 @@ ghost use Rattle.std.specs.Prelude.{◌≡◌, ◌≤◌, ◌==◌, ◌++◌, tr
 ghost use Rattle.std.specs.List.{position_or_len};
 ghost use Rattle.std.specs.Net.Addr.{ipv4_octets, ipv6_segments, octets_of, segments_of};
 ghost use Rattle.dnw_zone_values.specs.Spelling.{Appends};
-ghost use Rattle.dnw_zone_values.specs.Prefixes.{after, after_negation, before, is_negation, is_shown, address_size, address_text, family_of, negation_text, negates, padded, prefix_text, prefix_wire, without_zeros, ends_well, shown_text, IsFamilyText, IsPrefixOf, IsPrefixText};
+ghost use Rattle.dnw_zone_values.specs.Prefixes.{after, after_negation, before, is_negation, is_shown, address_size, prefix_address_text, prefix_family, negation_text, negates, with_zeros, prefix_text, prefix_wire, without_zeros, ends_in_no_zero, shown_prefix_text, IsFamilyText, IsPrefixOf, IsPrefixText};
 ghost use Rattle.dnw_zone_values.specs.Inside.Steps.{PushesOne, WritesValue};
 ghost use Rattle.dnw_zone_values.specs.Inside.Takes.{KeepsFront};
 ghost use Rattle.dnw_zone_values.specs.declared.error.FieldTextError.TheVariants.{Prefix as PrefixWanted};
@@ -236,10 +236,10 @@ pub fn write_prefix(octets: &[u8], out: &mut String) -> Result<bool, AllocError>
 /// Appends the text of a prefix.
 fn push_shown(octets: &[u8], out: &mut String) -> Result<(), AllocError>
     requires { is_shown octets.now ≡ true }
-    ensures { IfOk result (λ _. string_bytes out.new ≡ string_bytes out.old ++ shown_text octets.now) }
+    ensures { IfOk result (λ _. string_bytes out.new ≡ string_bytes out.old ++ shown_prefix_text octets.now) }
 {
     push_negation(negates(octets), out)?;
-    push_address(family_of(octets), address_of(octets), out)?;
+    push_address(prefix_family(octets), address_of(octets), out)?;
     write!(out, "/{}", octets[2])?;
     Ok(())
 }
@@ -253,9 +253,9 @@ fn address_of(octets: &[u8]) -> &[u8]
 }
 
 /// Returns the number of the family of a prefix.
-fn family_of(octets: &[u8]) -> u16
+fn prefix_family(octets: &[u8]) -> u16
     requires { 4 ≤ length octets.now }
-    ensures { result ≡ family_of octets.now }
+    ensures { result ≡ prefix_family octets.now }
 {
     u16::from_be_bytes([octets[0], octets[1]])
 }
@@ -273,7 +273,7 @@ fn push_negation(negates: bool, out: &mut String) -> Result<(), AllocError>
 /// Appends the number of a family, and an address of these octets and zeros after them.
 fn push_address(family: u16, own: &[u8], out: &mut String) -> Result<(), AllocError>
     requires { length own.now ≤ address_size family }
-    ensures { IfOk result (λ _. string_bytes out.new ≡ string_bytes out.old ++ address_text family own.now) }
+    ensures { IfOk result (λ _. string_bytes out.new ≡ string_bytes out.old ++ prefix_address_text family own.now) }
 {
     if family == 1 {
         write!(out, "1:{}", ipv4_of(own))?;
@@ -299,7 +299,7 @@ fn is_shown(octets: &[u8]) -> bool
         && *bits <= most
         && usize::from(*count % NEGATION) == own.len()
         && own.len() <= size
-        && ends_well(own)
+        && ends_in_no_zero(own)
 }
 
 /// Returns `true` if a prefix negates.
@@ -311,8 +311,8 @@ fn negates(octets: &[u8]) -> bool
 }
 
 /// Returns `true` if the last octet is not zero, or there is none.
-fn ends_well(own: &[u8]) -> bool
-    ensures { result ≡ ends_well own.now }
+fn ends_in_no_zero(own: &[u8]) -> bool
+    ensures { result ≡ ends_in_no_zero own.now }
 {
     match own.last() {
         Some(last) => *last != 0,
@@ -323,7 +323,7 @@ fn ends_well(own: &[u8]) -> bool
 /// Returns the IPv4 address of octets and zeros after them.
 fn ipv4_of(own: &[u8]) -> Ipv4Addr
     requires { length own.now ≤ 4 }
-    ensures { ipv4_octets result ≡ padded 4 own.now }
+    ensures { ipv4_octets result ≡ with_zeros 4 own.now }
 {
     let mut octets = [0u8; 4];
     octets[..own.len()].copy_from_slice(own);
@@ -333,15 +333,15 @@ fn ipv4_of(own: &[u8]) -> Ipv4Addr
 /// Returns the IPv6 address of octets and zeros after them.
 fn ipv6_of(own: &[u8]) -> Ipv6Addr
     requires { length own.now ≤ 16 }
-    ensures { ipv6_segments result ≡ segments_of (padded 16 own.now) }
+    ensures { ipv6_segments result ≡ segments_of (with_zeros 16 own.now) }
 {
-    Ipv6Addr::from(padded(own))
+    Ipv6Addr::from(with_zeros(own))
 }
 
 /// Returns octets and zeros after them.
-fn padded(own: &[u8]) -> [u8; 16]
+fn with_zeros(own: &[u8]) -> [u8; 16]
     requires { length own.now ≤ 16 }
-    ensures { result ≡ padded 16 own.now }
+    ensures { result ≡ with_zeros 16 own.now }
 {
     let mut octets = [0u8; 16];
     octets[..own.len()].copy_from_slice(own);

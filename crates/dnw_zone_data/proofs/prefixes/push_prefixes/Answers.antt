@@ -1,7 +1,7 @@
 use Rattle.std.proofs.Common.{◌≡◌, ◌++◌, [], ◌∷◌, List, ℕ, length, refl, sym, ap, ◌∙◌, append_assoc, append-nil, arith}
 use Rattle.std.specs.Prelude.{string_bytes}
 use Rattle.std.proofs.lemmas.List.{take-append-drop}
-use Rattle.dnw_zone_data.specs.PrefixLists.{prefixes_within, prefix_size}
+use Rattle.dnw_zone_data.specs.PrefixLists.{prefixes_within, first_prefix_size}
 use Rattle.dnw_zone_data.proofs.TypeSteps.{after_nil}
 use Rattle.dnw_zone_data.proofs.PrefixSteps.{prefix_more, prefix_short, prefix_none, spaced_more, no_prefixes, all_prefixes}
 use Rattle.dnw_zone_data.proofs.Empty.{is_empty, not_empty}
@@ -18,7 +18,7 @@ returns-in_default c =
     let left : List ℕ = c.prefixes.left.now in
     let some = not_empty left _ c.is_empty.ensures c.prefixes-test.true in
     no_prefixes c.args.octets.now left found found (string_bytes c.args.out.now) (string_bytes c.prefixes.out) n so_far
-    (prefix_short n left some (omega (arith, c.in_default.ensures.cases, c.prefix_size.ensures))) spaced text
+    (prefix_short n left some (omega (arith, c.in_default.ensures.cases, c.first_prefix_size.ensures))) spaced text
 
 pub returns-then-not-branch : goal.returns-then-not-branch
 returns-then-not-branch c =
@@ -28,10 +28,10 @@ returns-then-not-branch c =
     let others : List ℕ = c.in-Some.after.now in
     let some = not_empty left _ c.is_empty.ensures c.prefixes-test.true in
     let parts = c.in-Some.ensures.cases in
-    let whole : left ≡ own ++ others = sym (take-append-drop c.prefix_size.result left) ∙ rw (parts.1, parts.2) refl in
+    let whole : left ≡ own ++ others = sym (take-append-drop c.first_prefix_size.result left) ∙ rw (parts.1, parts.2) refl in
     let none = rw c.if-not-branch.true at c.in_ok-write_prefix.ensures in
     no_prefixes c.args.octets.now left found (found ++ 32 ∷ []) (string_bytes c.args.out.now) (string_bytes c.write_prefix.new.out) n so_far
-    (prefix_none n left own others some whole (parts.3 ∙ c.prefix_size.ensures) none.0) (spaced_more found [] spaced)
+    (prefix_none n left own others some whole (parts.3 ∙ c.first_prefix_size.ensures) none.0) (spaced_more found [] spaced)
     (none.1 ∙ c.in_ok-push_str.ensures.bytes ∙ ap (λ (xs : List ℕ). xs ++ 32 ∷ []) text ∙ append_assoc (string_bytes c.args.out.now) found (32 ∷ []))
 
 pub prefixes-preserved : goal.prefixes-preserved
@@ -42,9 +42,9 @@ prefixes-preserved c =
     let others : List ℕ = c.in-Some.after.now in
     let some = not_empty left _ c.is_empty.ensures c.prefixes-test.true in
     let parts = c.in-Some.ensures.cases in
-    let whole : left ≡ own ++ others = sym (take-append-drop c.prefix_size.result left) ∙ rw (parts.1, parts.2) refl in
+    let whole : left ≡ own ++ others = sym (take-append-drop c.first_prefix_size.result left) ∙ rw (parts.1, parts.2) refl in
     let (shown, is, bytes) = rw c.if-not-branch.false at c.in_ok-write_prefix.ensures in
-    let (m, shorter, more) = prefix_more c.args.octets.now left own others found shown n so_far few some whole (parts.3 ∙ c.prefix_size.ensures) is in
+    let (m, shorter, more) = prefix_more c.args.octets.now left own others found shown n so_far few some whole (parts.3 ∙ c.first_prefix_size.ensures) is in
     let old : List ℕ = string_bytes c.args.out.now in (
       m,
       found ++ 32 ∷ shown,
