@@ -6,8 +6,8 @@ use dns_names_wire::binary::{BinDecodable, BinEncodable};
 use dns_names_wire::decoder::BinDecoder;
 use dns_names_wire::encoder::BinEncoder;
 use dns_names_wire::field_text::{
-    parse_base64, parse_hash, parse_hexadecimal, parse_pairs, parse_salt, parse_string, parse_tag,
-    parse_text,
+    parse_base64, parse_hash, parse_hexadecimal, parse_nsap, parse_pairs, parse_prefix, parse_salt,
+    parse_string, parse_tag, parse_text,
 };
 use dns_names_wire::name::Name;
 use dns_names_wire::rdata::{CheckedRecord, RData, Record};
@@ -37,6 +37,8 @@ fn values_are_appended_to_vectors_of_any_size(rt: HostRuntime) -> Result<(), Fai
         parse_hash("CO", &mut long)?;
         parse_salt("0b", &mut long)?;
         parse_pairs("01-02", &mut long)?;
+        parse_prefix(b"1:192.0.2.0/24", &mut long)?;
+        parse_nsap(alloc, b"0x47", &mut long)?;
         parse_string(b"s", &mut long)?;
         parse_text(b"t", &mut long)?;
         parse_tag("tag", &mut long)?;
@@ -54,6 +56,11 @@ fn texts_of_values_may_have_any_size(rt: HostRuntime) -> Result<(), Fail> {
         let mut parsed = Vec::new(alloc);
         parse_hexadecimal("0a".repeat(alloc, len)?.as_str(), &mut parsed)?;
         assert_eq!(rt; parsed.len(), len);
+        let mut nsap = String::from_str(alloc, "0x")?;
+        nsap.push_str("4.7".repeat(alloc, len)?.as_str())?;
+        let mut address = Vec::new(alloc);
+        parse_nsap(alloc, nsap.as_bytes(), &mut address)?;
+        assert_eq!(rt; address.len(), len);
         parse_base64("Zm9v".repeat(alloc, len)?.as_str(), &mut parsed)?;
         assert_eq!(rt; parsed.len(), len.saturating_mul(4));
         parse_text(text(alloc, len)?.as_bytes(), &mut parsed)?;
