@@ -52,8 +52,6 @@ OWN_FORMS = {
         "255 00 AA== rvs1.example.com. rvs2.example.com.",
     ],
     "AMTRELAY": ["10 0 1 203.0.113.15", "10 0 2 2001:db8::15", "128 1 3 amtrelays.example.com.", "255 0 0 ."],
-    "WKS": ["10.0.0.1 6 25 80", "192.0.2.1 17 53 0", "192.0.2.1 TCP 25"],
-    "NXT": ["big.example.com. A MX SIG NXT", ". A NXT"],
     "DSYNC": ["CDS NOTIFY 5359 cds-scanner.example.net.", "CSYNC 1 5360 .", "A 255 0 a."],
 }
 EXAMPLES = {
