@@ -319,8 +319,9 @@ field_kept kinds.ChaosAddress d value after text h takes print =
     by_none kinds.ChaosAddress value (u16 (from_be_bytes w16 (own_at kinds.ChaosAddress d))) text takes.2 print (λ p. p)
 field_kept kinds.Locator d value after text h takes print =
     let fit = own_fit kinds.Locator d h in
+    let n = from_be_bytes w64 (own_at kinds.Locator d) in
     by_value kinds.Locator value _ text takes.2 print
-    (λ p. kept_by text _ p (keeps_plain _ (locator_plain _ (omega (arith, fit 0, fit 1, fit 2, fit 3, fit 4, fit 5, fit 6, fit 7)))))
+    (λ p. kept_by text _ p (keeps_plain _ (locator_plain n (omega (arith, fit 0, fit 1, fit 2, fit 3, fit 4, fit 5, fit 6, fit 7)))))
 field_kept kinds.NodeNumber d value after text h takes print =
     let fit = own_fit kinds.NodeNumber d h in
     by_value kinds.NodeNumber value _ text takes.2 print (number_kept _ text (omega (arith, fit 0, fit 1, fit 2, fit 3, fit 4, fit 5, fit 6, fit 7)))
