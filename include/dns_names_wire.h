@@ -32,7 +32,7 @@ extern "C" {
 #define DNW_SORT_KEY_SIZE 504
 #define DNW_TEXT_SIZE 1004
 #define DNW_CODE_SIZE 10
-#define DNW_SENTENCE_SIZE 128
+#define DNW_SENTENCE_SIZE 160
 
 /* The number of octets of an NSEC3 hash and of its label, and a size that is always enough for a digest. */
 #define DNW_NSEC3_HASH_SIZE 20

@@ -26,7 +26,7 @@ Text = c_char * TEXT_SIZE
 CodeText = c_char * CODE_SIZE
 ErrorText = c_char * 64
 # The bytes of the longest sentence about a text.
-SentenceText = c_char * 128
+SentenceText = c_char * 160
 
 
 # Buffers of these sizes. Their types are kept, since making a type takes longer than a call.

@@ -51,7 +51,7 @@ pub(crate) const EDNS_SIZE: usize = 11;
 /// The bytes of the longest text of an error.
 pub(crate) const ERROR_TEXT_SIZE: usize = 64;
 /// `DNW_SENTENCE_SIZE`
-pub(crate) const SENTENCE_SIZE: usize = 128;
+pub(crate) const SENTENCE_SIZE: usize = 160;
 
 /// `struct dnw_read_name`
 #[repr(C)]
