@@ -111,7 +111,7 @@ DIFFERENCES = {
         kind == "CAA" and own is None and said["BIND"] is None
     ),
     "read: no octets, where servers want some; data may have none, and are printed so": lambda kind, text, own, said: (
-        own is not None and kind in ("TLSA", "SMIMEA", "RRSIG", "SIG", "DNSKEY", "CDNSKEY", "KEY", "CERT", "OPENPGPKEY", "DS", "CDS", "SSHFP", "IPSECKEY")
+        own is not None and kind in ("TLSA", "SMIMEA", "RRSIG", "SIG", "DNSKEY", "CDNSKEY", "KEY", "CERT", "OPENPGPKEY", "DS", "CDS", "SSHFP", "IPSECKEY", "NSAP")
     ),
     "read: DSYNC, which of the four BIND alone knows (RFC 9859, section 2.1)": lambda kind, text, own, said: (
         kind == "DSYNC" and own is not None and own == said["BIND"]
