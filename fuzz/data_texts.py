@@ -8,6 +8,7 @@ or DIFFERENCES says why not. They are asked for some of the others as well. How 
 import collections
 import ctypes
 import random
+import re
 import subprocess
 import sys
 import tempfile
@@ -124,6 +125,9 @@ DIFFERENCES = {
     ),
     "read: a service parameter with escapes, which no server undoes (RFC 9460, section 2.1)": lambda kind, text, own, said: (
         kind in ("SVCB", "HTTPS") and "\\" in text and own
+    ),
+    "refused: a second line, which is blank; a record is one line": lambda kind, text, own, said: (
+        own is None and re.search(r'"[^"\n]*\([^"\n]*"[^"\n]*("?)\n[^"]*$', text) is not None
     ),
     "refused: an identifier with an escape, of which BIND leaves digits out (RFC 7043, section 3.2)": lambda kind, text, own, said: (
         kind in ("EUI48", "EUI64") and "\\" in text and not own
