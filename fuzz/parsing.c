@@ -107,6 +107,17 @@ static bool is_ttl(struct part word, uint32_t *ttl)
     return dnw_ttl_parse(word.bytes, word.len, ttl) == DNW_DONE;
 }
 
+/* Whether a word is `*`: any type or class in a question, and none of a record. */
+static bool is_any(struct part word)
+{
+    return word.len == 1 && word.bytes[0] == '*';
+}
+
+static bool is_class(struct part word, uint16_t *class)
+{
+    return !is_any(word) && dnw_class_parse(word.bytes, word.len, class) == DNW_DONE;
+}
+
 /* What is between the owner and the data: type, class and time to live, as a record has them. */
 static uint32_t head_of(struct part *text, uint8_t head[8], uint16_t *type)
 {
@@ -117,17 +128,17 @@ static uint32_t head_of(struct part *text, uint8_t head[8], uint16_t *type)
     struct part before = *text;
     if (is_first) {
         word = next_word(text);
-        if (dnw_class_parse(word.bytes, word.len, &class) != DNW_DONE)
+        if (!is_class(word, &class))
             *text = before;
     } else {
-        if (dnw_class_parse(word.bytes, word.len, &class) != DNW_DONE)
+        if (!is_class(word, &class))
             return DNW_BAD_TIME;
         word = next_word(text);
         if (!is_ttl(word, &ttl))
             return DNW_BAD_TIME;
     }
     word = next_word(text);
-    if (dnw_type_parse(word.bytes, word.len, type) != DNW_DONE)
+    if (is_any(word) || dnw_type_parse(word.bytes, word.len, type) != DNW_DONE)
         return DNW_UNKNOWN_TEXT;
     put_number(head, *type, 2);
     put_number(head + 2, class, 2);
