@@ -155,10 +155,15 @@ static bool is_little_known(uint16_t type)
     return false;
 }
 
-/* The model leaves open how these are printed: lists of types and parameters, EUI48 and EUI64, and CAA. */
+/* The model leaves open how these are printed: lists of types and parameters, EUI48 and EUI64; and CAA, NSAP, LOC, APL, IPSECKEY, HIP,
+   NID and L64, whose texts have forms of their own. */
 static bool is_open(uint16_t type)
 {
-    return strpbrk(model_fields_of(DNW_CLASS_IN, type, NULL, 0), "BP68") != NULL || type == 257;
+    static const uint16_t types[] = {257, 22, 29, 42, 45, 55, 104, 106};
+    for (size_t i = 0; i < sizeof types / sizeof *types; i++)
+        if (type == types[i])
+            return true;
+    return strpbrk(model_fields_of(DNW_CLASS_IN, type, NULL, 0), "BP68") != NULL;
 }
 
 /* Adds the text of a field after a space, and its octets. */
@@ -229,7 +234,7 @@ static void add_data(const uint8_t *message, const struct dnw_record *record)
     are_fields = failure == DNW_DONE;
     /* some fields have no text here, and then the data have none of their own */
     bool has_text = strpbrk(row, "bVYwLGRHANCX") == NULL && (strcmp(row, "o") != 0 || is_base64(record->record_type)) &&
-                    !is_little_known(record->record_type);
+                    (row[0] == 0 || !is_little_known(record->record_type));
     /* a text without a word is that of data that are left out, and not that of no octets in base 64 */
     if (!are_fields || !has_text || (row[0] != 0 && line.len == line_len)) {
         line.len = line_len;
