@@ -13,3 +13,5 @@ pub mod Joining
 pub mod TextSizes
 pub mod NamesBack
 pub mod PlainRuns
+pub mod PlainNames
+pub mod PlainForms

@@ -1,6 +1,8 @@
 -- Labels of octets that stand for themselves.
-use Rattle.std.proofs.Common.{◌≡◌, ℕ, ◌+◌, ◌<◌, true, false, List, ◌==◌, length, take, get_or, refl, ◌∙◌, arith}
-use Rattle.std.proofs.lemmas.Bool.{lt-ltb}
+use Rattle.std.proofs.Common.{◌≡◌, ℕ, zero, suc, ◌+◌, ◌<◌, ◌≤◌, true, false, List, ◌==◌, length, take, get_or, refl, sym, ◌∙◌, add-one, add-zero, arith}
+use Rattle.std.specs.List.{list_all}
+use Rattle.std.proofs.lemmas.Bool.{and_parts, lt-ltb}
+use Rattle.std.proofs.lemmas.List.Folds.{list_all_more}
 use Rattle.std.proofs.lemmas.List.{length-take-le, take_more, drop_more}
 use Rattle.dnw_name_text.specs.Inside.Labels.{BeginsPlain}
 use Rattle.dnw_name_text.specs.Inside.Plain.{is_own_octet}
@@ -14,10 +16,22 @@ unfolding is_own_octet
 own_no_backslash o h = grind arith
 
 -- one more
-pub plain_more : (text : List ℕ) (n m : ℕ) → m ≡ n + 1 → n < length text → n < 63 → is_own_octet (get_or text n 0) ≡ true
+pub own_more : (text : List ℕ) (n m : ℕ) → m ≡ n + 1 → n < length text → is_own_octet (get_or text n 0) ≡ true
+    → list_all is_own_octet (take n text) ≡ true → list_all is_own_octet (take m text) ≡ true
+own_more text n m next lt own all = rw (next, list_all_more is_own_octet text n 0 lt, all, own) refl
+
+-- and what reading is after it
+plain_more : (text : List ℕ) (n m : ℕ) → m ≡ n + 1 → n < length text → n < 63 → is_own_octet (get_or text n 0) ≡ true
     → BeginsPlain text n → BeginsPlain text m
 plain_more text n m next lt few own begins = λ at done.
     let size : length (take n text) ≡ n = length-take-le n text (omega arith) in
     let end : at + n + 1 ≡ at + (n + 1) = omega arith in
     begins at done
     ∙ rw (next, drop_more text n 0 lt, own_no_dot (get_or text n 0) own, own_no_backslash (get_or text n 0) own, size, lt-ltb n 63 few, take_more text n 0 lt, end) refl
+
+pub own_begins : (text : List ℕ) (n : ℕ) → n ≤ length text → n ≤ 63 → list_all is_own_octet (take n text) ≡ true → BeginsPlain text n
+own_begins text zero few short own = λ at done. rw add-zero refl
+own_begins text (suc n) few short own =
+    let lt : n < length text = omega (arith, few) in
+    let both = and_parts _ _ (sym (list_all_more is_own_octet text n 0 lt) ∙ rw (← add-one n) at own) in
+    plain_more text n (suc n) (sym (add-one n)) lt (omega (arith, short)) both.1 (own_begins text n (omega (arith, few)) (omega (arith, short)) both.0)

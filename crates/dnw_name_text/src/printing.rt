@@ -1,15 +1,17 @@
 //! Names printed (RFC 1035, section 5.1).
-ghost use Rattle.std.specs.Prelude.{◌≡◌, ◌+◌, ◌*◌, ◌≤◌, ◌<◌, [], ◌++◌, length, map};
+ghost use Rattle.std.specs.Prelude.{◌≡◌, ◌≢◌, ◌+◌, ◌-◌, ◌*◌, ◌≤◌, ◌<◌, [], ◌++◌, length, drop, map, IsTrue, IfSome, IfNone};
 ghost use Rattle.std.specs.List.{AllByRecursion, join_with_byte};
 ghost use Rattle.arrayvec.specs.ArrayString.{array_string_len};
 ghost use Rattle.dnw_base.specs.Limits.{max_name};
 ghost use Rattle.dnw_base.specs.Labels.{IsLabel};
-ghost use Rattle.dnw_base.specs.Names.{encoded_size};
+ghost use Rattle.dnw_base.specs.Names.{encoded_size, wire};
 ghost use Rattle.dnw_name_form.specs.LabelText.{dot};
 ghost use Rattle.dnw_name_text.specs.AsciiText.{max_text};
-ghost use Rattle.dnw_name_text.specs.NameTexts.{is_special, name_octet, label_octets, text_of_name};
+ghost use Rattle.dnw_name_text.specs.Inside.Plain.{plain_text};
+ghost use Rattle.dnw_name_text.specs.NameTexts.{is_special, full_name_text, name_octet, label_octets, labels_text, text_of_name};
 
 pub use crate::ascii::MAX_TEXT;
+use crate::plain::own_len;
 use arrayvec::ArrayString;
 use dnw_name_form::wire_labels::WireLabels;
 
@@ -32,6 +34,61 @@ pub fn push_name(out: &mut ArrayString<MAX_TEXT>, labels: WireLabels<'_>, is_fqd
     push_labels(out, labels);
     if is_fqdn {
         out.push('.');
+    }
+}
+
+/// Puts the text of the fully qualified name with these labels at the front of a buffer, and returns its length, if there are labels,
+/// each of their octets stands for itself, and the text fits. Else it returns `None`, and the buffer is unchanged.
+///
+/// Such a text is the wire form after its first octet, with dots in the place of the other lengths and of the zero. So it is copied in
+/// one piece, and takes fewer instructions than `push_name`.
+
+pub fn put_plain_text(out: &mut [u8], labels: WireLabels<'_>) -> Option<usize>
+    ensures some { IfSome result (λ len. (len ≡ length (full_name_text labels.entry)) × (len ≤ length out.old)
+        × (out.new ≡ full_name_text labels.entry ++ drop len out.old)) }
+    ensures none { IfNone result (out.new ≡ out.old) }
+{
+    let form = labels.as_wire();
+    let len = form.len() - 1;
+    if len == 0 || len > out.len() || !are_plain(labels.clone()) {
+        return None;
+    }
+    out[..len].copy_from_slice(&form[1..]);
+    put_dots(out, labels);
+    Some(len)
+}
+
+/// Returns `true` if each octet of the labels stands for itself.
+fn are_plain(mut labels: WireLabels<'_>) -> bool
+    ensures { IsTrue result → labels_text labels.entry ≡ plain_text labels.entry }
+{
+    'labels: while let Some(label) = labels.next() {
+        if !is_plain(label) {
+            return false;
+        }
+    }
+    true
+}
+
+/// Returns `true` if each octet of a label stands for itself.
+#[inline(always)]
+fn is_plain(label: &[u8]) -> bool
+    ensures { IsTrue result → label_octets label.now ≡ label.now }
+{
+    own_len(label) == label.len()
+}
+
+/// Puts a dot after each label of a wire form whose octets after the first one are at the front of a buffer.
+#[inline(always)]
+fn put_dots(out: &mut [u8], mut labels: WireLabels<'_>)
+    requires { out.old ≡ drop 1 (wire labels) ++ drop (length (wire labels) - 1) out.old }
+    ensures { out.new ≡ plain_text labels.entry ++ drop (length (wire labels.entry) - 1) out.old }
+{
+    let mut end = 0;
+    'labels: while let Some(label) = labels.next() {
+        end += label.len();
+        out[end] = b'.';
+        end += 1;
     }
 }
 

@@ -1,6 +1,7 @@
 //! Names in texts (RFC 1035, section 5.1).
-ghost use Rattle.std.specs.Prelude.{◌≡◌, ◌≢◌, ℕ, ◌+◌, ◌^◌, ◌<◌, ◌≤◌, List, [], length, Ok, Err, IfOk, IfErr};
-ghost use Rattle.dnw_base.specs.Limits.{max_label};
+ghost use Rattle.std.specs.Prelude.{◌≡◌, ◌≢◌, ℕ, ◌+◌, ◌^◌, ◌<◌, ◌≤◌, true, List, [], ◌++◌, Option, length, take, drop, Ok, Err, IfSome, IfOk, IfErr};
+ghost use Rattle.dnw_base.specs.Limits.{max_label, max_name};
+ghost use Rattle.dnw_base.specs.Names.{AreLabels, encoded_size, wire};
 ghost use Rattle.dnw_name_text.specs.declared.reading.Escape.TheVariants.{Outside};
 ghost use Rattle.dnw_name_text.specs.Inside.Labels.{IsEscape, IsTextElement, BeginsPlain, MakesLabels, MakesName, MakesStep};
 ghost use Rattle.dnw_name_form.specs.Edits.{with_labels};
@@ -9,9 +10,9 @@ ghost use Rattle.dnw_name_text.specs.NameReading.{element, ended, labels_from, l
 
 use crate::ascii::Parsed;
 use crate::error::{NameTextError, NameTextRule};
-use crate::plain::is_own;
+use crate::plain::own_len;
 use arrayvec::ArrayVec;
-use dnw_base::limits::MAX_LABEL;
+use dnw_base::limits::{MAX_LABEL, MAX_NAME};
 use dnw_name_form::form::WireForm;
 use dnw_name_form::wire_labels::WireLabels;
 use std::alloc::Global;
@@ -88,6 +89,43 @@ pub fn read_into(
     Ok(true)
 }
 
+/// Puts the wire form of the name that a text gives at the front of a room, and returns its length, if the octets of its labels stand for
+/// themselves and a dot is after each of them. Else it returns `None`, and the room has any octets.
+///
+/// The text is copied in one piece, and each dot gives way to the length of the next label, or to the closing zero. So it takes fewer
+/// instructions than `read`.
+pub fn put_plain_form(room: &mut [u8; MAX_NAME], text: &[u8]) -> Option<usize>
+    ensures { IfSome result (λ len. (labels : List (List ℕ)) × (take len room.new ≡ wire labels) × (len ≡ encoded_size labels) × AreLabels labels
+        × ((origin : Option (List (List ℕ))) → name_of_text origin text.now ≡ Ok (record { is_fqdn = true; labels = labels }))) }
+{
+    if text.is_empty() || text.len() >= MAX_NAME {
+        return None;
+    }
+    put_after_first(room, text);
+    let mut start = 0;
+    'labels: while start < text.len() {
+        let (_, rest) = text.split_at(start);
+        let len = plain_len(rest);
+        let end = start + len;
+        if len == 0 || end == text.len() || text[end] != b'.' {
+            return None;
+        }
+        room[start] = len as u8;
+        start = end + 1;
+    }
+    room[start] = 0;
+    Some(start + 1)
+}
+
+/// Puts a text into a room after the first octet.
+#[inline(always)]
+fn put_after_first(room: &mut [u8; MAX_NAME], text: &[u8])
+    requires { length text.now < max_name }
+    ensures { room.new ≡ take 1 room.old ++ (text.now ++ drop (1 + length text.now) room.old) }
+{
+    room[1..1 + text.len()].copy_from_slice(text);
+}
+
 /// Adds the labels of an origin, or reports that the name is too long at the text's end.
 fn complete(form: &mut WireForm, labels: WireLabels<'_>, end: usize) -> Result<(), NameTextError>
     ensures { MakesLabels (or_too_long end (with_labels form.old labels.entry)) result form.new }
@@ -140,36 +178,14 @@ fn read_labels(form: &mut WireForm, text: &[u8]) -> Result<bool, NameTextError>
     }
 }
 
-/// Returns the number of octets that stand for themselves, 63 at most, that a text begins with.
+/// Returns the number of octets that stand for themselves, 63 at most, that a text begins with, and what reading is after them.
 #[inline(always)]
-#[tactic(auto, using(crate::proofs::PlainRuns::plain_more))]
 fn plain_len(text: &[u8]) -> usize
     ensures few { result ≤ length text.now }
     ensures short { result ≤ max_label }
     ensures plain { BeginsPlain text.now result }
 {
-    let most = text.len().min(MAX_LABEL);
-    let mut len = 0;
-    // Four octets a round take less than one.
-    'fours: while most - len >= 4 {
-        if !is_own(text[len]) {
-            return len;
-        }
-        if !is_own(text[len + 1]) {
-            return len + 1;
-        }
-        if !is_own(text[len + 2]) {
-            return len + 2;
-        }
-        if !is_own(text[len + 3]) {
-            return len + 3;
-        }
-        len += 4;
-    }
-    while len < most && is_own(text[len]) {
-        len += 1;
-    }
-    len
+    own_len(text)
 }
 
 /// Adds the label that a text begins with, octet by octet after those that stand for themselves.

@@ -1,0 +1,9 @@
+use Rattle.std.proofs.Common.{◌-◌, length}
+use Rattle.dnw_name_text.proofs.PlainForms.{Placed}
+use Rattle.dnw_name_text.proofs.reading.put_plain_form.Given as goal
+
+abbrev pub invariant-labels : goal.invariant-labels
+invariant-labels l = Placed l.text l.room l.start
+
+abbrev pub decreases-labels : goal.decreases-labels
+decreases-labels l = length l.text - l.start
