@@ -13,9 +13,10 @@
 //!     |                                      |-- label_at
 //!     |                                      `-- pointer_at         each rule of RFC 1035, section 4.1.4, is tested here
 //!     v
-//! NameRef { message, first, size, labels, in_one_piece }            lends its labels: RefLabels::next
+//! NameRef { message, first, size, labels, head, tail }              lends its labels: RefLabels::next
 //!     |  Name::read goes on: copied                                 one copy: in one piece if no pointer follows
-//!     |                       `-- gathered -- copy_runs             the first label, else run by run between pointers
+//!     |                       `-- gathered -- copy_name             the first label, in two if one does, else run by
+//!     |                                         `-- copy_runs       run between pointers
 //!     |  Name::read_into: clone_into                                the same, in the place of a name that is there
 //!     v
 //! Name { is_fqdn, form }

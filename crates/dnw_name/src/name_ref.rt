@@ -26,7 +26,7 @@ use std::marker::Model;
 
 /// A name in a message. It borrows its labels from the message, and nothing here allocates.
 ///
-/// It takes 48 bytes, while a `Name` takes some 270 and is a copy: use this to compare a name or to pass over it, and
+/// It takes 56 bytes, while a `Name` takes some 270 and is a copy: use this to compare a name or to pass over it, and
 /// `to_name` to keep it. A contract sees it as the list of its labels.
 #[derive(Drop)]
 pub struct NameRef<'a> {
@@ -34,7 +34,9 @@ pub struct NameRef<'a> {
     first: usize,
     size: usize,
     labels: usize,
-    in_one_piece: bool,
+    // The two pieces of the wire form, as a walk has found them: so many octets at the first label, and the others.
+    head: usize,
+    tail: usize,
 }
 
 impl<'a> Model for NameRef<'a> {
@@ -47,7 +49,7 @@ impl<'a> Model for NameRef<'a> {
 
     ghost view = { λ n. labels_at n.message.now n.first };
 
-    ghost invariant = { λ n. NameLiesAt n.message.now n.first n.size n.labels n.in_one_piece };
+    ghost invariant = { λ n. NameLiesAt n.message.now n.first n.size n.labels n.head n.tail };
 }
 
 impl<'a> NameRef<'a> {
@@ -98,7 +100,8 @@ impl<'a> NameRef<'a> {
             first: walked.first,
             size: walked.size,
             labels: steps.labels,
-            in_one_piece: walked.in_one_piece,
+            head: walked.head,
+            tail: walked.tail,
         })
     }
 
@@ -191,7 +194,7 @@ impl<'a> NameRef<'a> {
         if let Some(labels) = self.labels_in_place() {
             return labels;
         }
-        copy::copy_runs(room, self.message, self.first);
+        self.fill(room);
         WireLabels::new(&room[..size])
     }
 
@@ -200,7 +203,7 @@ impl<'a> NameRef<'a> {
     pub fn labels_in_place(&self) -> Option<WireLabels<'a>>
         ensures { IfSome result (λ labels. labels ≡ self.now) }
     {
-        if !self.in_one_piece {
+        if self.head != self.size {
             return None;
         }
         let octets = &self.message[self.first..self.first + self.size];
@@ -251,7 +254,7 @@ impl<'a> NameRef<'a> {
     {
         let size = self.encoded_len();
         let mut room = [0; MAX_NAME];
-        copy::copy_runs(&mut room, self.message, self.first);
+        self.fill(&mut room);
         Name::qualified(WireForm::from_wire(Octets::from_array(room, size)))
     }
 
@@ -261,10 +264,8 @@ impl<'a> NameRef<'a> {
         requires { encoded_size self.now ≤ length out.old }
         ensures { out.new ≡ put out.old (wire self.now) }
     {
-        match self.piece() {
-            Some(octets) => out[..octets.len()].copy_from_slice(octets),
-            None => copy::copy_runs(out, self.message, self.first),
-        }
+        let (first, size) = (self.first, self.size);
+        copy::copy_name(out, self.message, first, size, self.head, self.tail);
     }
 
     /// Returns the wire form if it is in the message in one piece: no pointer follows the first label.
@@ -283,12 +284,14 @@ impl Name {
     pub fn as_name_ref(&self) -> NameRef<'_>
         ensures { result ≡ self.now.labels }
     {
+        let size = self.encoded_len();
         NameRef {
             message: self.as_wire(),
             first: 0,
-            size: self.encoded_len(),
+            size,
             labels: self.wire_labels().len(),
-            in_one_piece: true,
+            head: size,
+            tail: 0,
         }
     }
 }

@@ -1,7 +1,7 @@
 -- A copy of a name, run by run.
-use Rattle.std.proofs.Common.{◌≡◌, ℕ, suc, Bool, IsTrue, ◌+◌, ◌-◌, ◌<◌, ◌≤◌, Option, List, [], ◌∷◌, ◌++◌, length, take, drop, get_or, slice_range, refl, ap, ◌∙◌, append_assoc, add-one, arith, length-append, length-take-le}
+use Rattle.std.proofs.Common.{◌≡◌, ℕ, suc, ◌+◌, ◌-◌, ◌<◌, ◌≤◌, Option, List, [], ◌∷◌, ◌++◌, length, take, drop, get_or, slice_range, refl, sym, ap, ◌∙◌, append_assoc, add-one, arith, length-append, length-take-le}
 use Rattle.std.proofs.Math.Seq.{take-add, drop-cons}
-use Rattle.std.proofs.lemmas.List.{drop-drop, take_at}
+use Rattle.std.proofs.lemmas.List.{append-nil, drop-drop, take_at}
 use Rattle.std.proofs.lemmas.Grind.{common_steps}
 use Rattle.std.proofs.lemmas.Slice.{drop-append-drop}
 use Rattle.std.proofs.lemmas.List.Edits.{length-between, between_none}
@@ -19,7 +19,7 @@ pub slice_range_split : (b : List ℕ) (i j k : ℕ) → i ≤ j → j ≤ k →
 slice_range_split b i j k first second = grind (arith, common_steps, take-add (j - i) (k - j) (drop i b), drop-drop (j - i) i b)
 
 -- and its first octet and the rest
-slice_range_cons : (b : List ℕ) (p q : ℕ) → p < length b → p < q → slice_range b p q ≡ get_or b p 0 ∷ slice_range b (p + 1) q
+pub slice_range_cons : (b : List ℕ) (p q : ℕ) → p < length b → p < q → slice_range b p q ≡ get_or b p 0 ∷ slice_range b (p + 1) q
 slice_range_cons b p q inside some =
     let many : q - p ≡ suc (q - (p + 1)) = omega arith in
     rw (many, drop-cons b p 0 inside, ← add-one p) refl
@@ -40,14 +40,13 @@ Reads_plain {b} {p} (label {e = end} {ls = rest} c w g one most fit r) none =
     rw (slice_range_split b p (p + 1 + c) end (omega arith) (omega arith), Reads_plain r none) (label_form b p c rest (get_or_from_slice_get b p c 0 g) fit)
 Reads_plain (pointer high low w g least g' prior r) none = absurd (omega arith)
 
--- such a name stands in one piece, as long as its uncompressed form
-pub LiesAt_plain : {b : List ℕ} {p size count : ℕ} {in_one_piece : Bool} → NameLiesAt b p size count in_one_piece → IsTrue in_one_piece
+-- a name whose octets are all at p stands in one piece
+pub LiesAt_plain : {b : List ℕ} {p size count head tail : ℕ} → NameLiesAt b p size count head tail → head ≡ size
     → (p + size ≤ length b) × (slice_range b p (p + size) ≡ wire (labels_at b p))
-LiesAt_plain {b} {p} {size} h whole =
-    let (after, inside) = Reads_own h.stands.name.reads in
-    let form = Reads_plain h.stands.name.reads (h.plain whole) in
-    let end_is : h.end ≡ p + size = omega (arith, h.stands.size_is, length-between b p h.end inside, ap length form, length_wire (labels_at b p)) in
-    (omega arith, rw end_is at form)
+LiesAt_plain {b} {p} {size} {count} {head} {tail} h whole =
+    let two = h.pieces (omega (arith, whole, h.stands.size_is)) in
+    let none : tail + (size - head) ≡ tail = omega (arith, whole) in
+    (omega (arith, two.front, whole), rw whole at (rw (none, between_none, append-nil) at two.form))
 
 -- the copy of a name begins
 pub Copies_start : {b : List ℕ} {p end size count pointers : ℕ} (out : List ℕ) → StandsAt b p end size count pointers → CopiesRuns b p p p out out 0
@@ -100,6 +99,14 @@ module _ {b : List ℕ} {start run p : ℕ} {buffer out : List ℕ} {filled : �
         counts = omega (arith, h.counts, ap (λ ls. length (wire ls)) labels);
         whole = rw (between_none, ← labels, front, rest, append_assoc) h.whole;
       }
+
+-- two pieces, one after the other
+pub two_runs : (out middle after front back : List ℕ) (head : ℕ) → middle ≡ take 0 out ++ (front ++ drop (0 + length front) out) → head ≡ length front
+    → after ≡ take head middle ++ (back ++ drop (head + length back) middle) → length front + length back ≤ length out → after ≡ put out (front ++ back)
+two_runs out middle after front back head first size second room =
+    let (begins, rest) = put_there out middle front 0 head (head + length back) first (omega (arith, size)) (omega arith) (omega (arith, size)) in
+    let end : length (front ++ back) ≡ head + length back = omega (arith, size, length-append front back) in
+    second ∙ rw (begins, rest, end) (sym (append_assoc front back (drop (head + length back) out)))
 
 -- what is taken of a buffer that a wire form was put into
 pub wire_taken : (ls : List (List ℕ)) (size : ℕ) (buffer out : List ℕ) → size ≡ encoded_size ls → out ≡ put buffer (wire ls) → take size out ≡ wire ls

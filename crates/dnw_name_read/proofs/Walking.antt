@@ -1,17 +1,18 @@
 -- What a walk knows before and after each element.
-use Rattle.std.proofs.Common.{◌≡◌, ℕ, suc, ◌+◌, ◌≤◌, IsTrue, Option, Some, None, List, [], ◌∷◌, ◌++◌, length, slice_get, slice_range, unwrap_or, refl, sym, ◌∙◌, append_assoc, zero-add, add-zero, add-one, arith}
+use Rattle.std.proofs.Common.{◌≡◌, ℕ, suc, ◌+◌, ◌-◌, ◌≤◌, Option, Some, None, List, [], ◌∷◌, ◌++◌, length, slice_get, slice_range, unwrap_or, refl, sym, ◌∙◌, append_assoc, zero-add, add-zero, add-one, arith}
 use Rattle.std.proofs.lemmas.List.{length_push, append-nil}
 use Rattle.std.proofs.lemmas.Option.{slice_get_within}
 use Rattle.dnw_name_read.specs.declared.walk.Walked.{Walked}
 use Rattle.dnw_base.specs.Names.{encoded_size}
 use Rattle.dnw_base.proofs.Wires.{encoded_size_push, no_labels_size}
 use Rattle.dnw_name_read.specs.Reading.{IsWithin, NameAt, zero_octet, label}
-use Rattle.dnw_name_read.specs.Inside.Walking.{IsLabelAt, IsPointerAt, once_followed, GoesOn, Leads, WalksOn}
+use Rattle.dnw_name_read.specs.Inside.Walking.{IsLabelAt, IsPointerAt, IsHead, once_followed, GoesOn, Leads, PassedOctets, WalksOn}
 use Rattle.dnw_name_read.specs.Inside.Found.{IsFound}
 use Rattle.dnw_name_read.proofs.Counts.{length_label}
 use Rattle.dnw_name_read.proofs.Stand.{Reads_wider}
 use Rattle.dnw_name_read.proofs.Unique.{Reads_jump, Stops_jump}
 use Rattle.dnw_name_read.proofs.Found.{labels_at_NameAt, StandsAt_found}
+use Rattle.dnw_name_read.proofs.Pieces.{passed_none, passed_label, passed_jump, in_two}
 
 -- a walk begins at the start, in a segment with any limit
 Leads_start : (b : List ℕ) (p : ℕ) (limit : Option ℕ) (passed : List (List ℕ)) → passed ≡ [] → Leads b p p p limit passed
@@ -22,6 +23,7 @@ pub WalksOn_start : (b : List ℕ) (p end : ℕ) → WalksOn b p p p p (length b
 WalksOn_start b p end = record {
   passed = [];
   counts = omega arith;
+  written = passed_none b p p (length b) [] refl (omega arith);
   whole = λ _. refl;
   leads = Leads_start b p None [] refl;
   goes_on = record { reads = λ ls e k r. rw zero-add r };
@@ -48,9 +50,9 @@ module _ {b : List ℕ} {start first p s limit end size pointers labels : ℕ} (
     (w : IsWithin p (once_followed pointers limit)) where
   -- the name ends here
   pub WalksOn-end : slice_get b p ≡ Some 0 → (walked : Walked) → walked.first ≡ first → walked.size ≡ size
-      → walked.end ≡ unwrap_or (once_followed pointers end) (p + 1) → (IsTrue walked.in_one_piece → s ≡ first)
+      → walked.end ≡ unwrap_or (once_followed pointers end) (p + 1) → walked.tail ≡ s → IsHead first s limit size (p + 1 - s) walked.head
       → IsFound b start walked labels pointers
-  WalksOn-end g walked first_is size_is end_is plain =
+  WalksOn-end g walked first_is size_is end_is tail_is head_is =
       let fits : encoded_size h.passed ≤ 255 = omega (arith, h.counts) in
       let size_of : walked.size ≡ encoded_size h.passed = size_is ∙ sym h.counts.size_is in
       let name : NameAt b start h.passed walked.end pointers = rw end_is (goes-end w h.goes_on g fits) in
@@ -61,7 +63,9 @@ module _ {b : List ℕ} {start first p s limit end size pointers labels : ℕ} (
           end = h.leads.own (p + 1);
           pointers = h.leads.more;
           stands = StandsAt_found h.passed there size_of (sym h.counts.count_is);
-          plain = λ whole. let same = plain whole in omega (arith, h.leads.earlier);
+          pieces = λ some.
+              let two = in_two h.written g h.counts.order (sym h.counts.size_is) (rw first_is at (labels_at_NameAt _ _ _ _ _ there)) walked.head head_is some in
+              rw (first_is, size_is, tail_is) two;
         };
         same = labels_at_NameAt _ _ _ _ _ there ∙ sym (labels_at_NameAt _ _ _ _ _ name);
       }
@@ -74,6 +78,7 @@ module _ {b : List ℕ} {start first p s limit end size pointers labels : ℕ} (
       record {
         passed = h.passed ++ new ∷ [];
         counts = omega (arith, h.counts, l.some, encoded_size_push h.passed new, length_push h.passed new, length_label b p c l.there);
+        written = passed_label h.written c l h.counts.order;
         whole = h.whole;
         leads = record { more = h.leads.more; own = h.leads.own; earlier = h.leads.earlier; goes_on = goes-label w h.leads.goes_on c l };
         goes_on = goes-label w h.goes_on c l;
@@ -84,9 +89,10 @@ module _ {b : List ℕ} {start first p s limit end size pointers labels : ℕ} (
 
   -- a pointer is followed, wherever the first label is then
   WalksOn-jump : (t e to : ℕ) → IsPointerAt b p s t → e ≡ unwrap_or (once_followed pointers end) (p + 2)
-      → Leads b to t t (Some s) h.passed → WalksOn b start to t t s e size (pointers + 1) labels
-  WalksOn-jump t e to at end_is leads = rw add-one (record {
+      → Leads b to t t (Some s) h.passed → PassedOctets b to t t s h.passed → WalksOn b start to t t s e size (pointers + 1) labels
+  WalksOn-jump t e to at end_is leads written = rw add-one (record {
     passed = h.passed;
+    written = written;
     counts = omega (arith, h.counts, at.prior, slice_get_within b p at.high at.first);
     whole = λ zero. absurd (omega arith);
     leads = leads;
@@ -99,13 +105,16 @@ module _ {b : List ℕ} {start first p s limit end size pointers labels : ℕ} (
   -- it is at the first label now, or after one
   pub WalksOn-first : (t e : ℕ) → IsPointerAt b p s t → e ≡ unwrap_or (once_followed pointers end) (p + 2)
       → size ≡ 1 → WalksOn b start t t t s e size (pointers + 1) labels
-  WalksOn-first t e at end_is none = WalksOn-jump t e t at end_is (Leads_start _ _ _ _ ((no_labels_size h.passed).0 (h.counts.size_is ∙ none)))
+  WalksOn-first t e at end_is none =
+      let no_labels = (no_labels_size h.passed).0 (h.counts.size_is ∙ none) in
+      WalksOn-jump t e t at end_is (Leads_start _ _ _ _ no_labels) (passed_none _ _ _ _ _ no_labels (omega (arith, h.counts.order, slice_get_within b p at.high at.first)))
 
   pub WalksOn-pointer : (t e : ℕ) → IsPointerAt b p s t → e ≡ unwrap_or (once_followed pointers end) (p + 2)
       → WalksOn b start first t t s e size (pointers + 1) labels
   WalksOn-pointer t e at end_is =
       let earlier : t + suc h.leads.more ≤ first = omega (arith, at.prior, h.leads.earlier) in
       WalksOn-jump t e first at end_is (record { more = suc h.leads.more; own = λ e. h.leads.own (p + 2); earlier = earlier; goes_on = goes-pointer w h.leads.goes_on t at })
+      (passed_jump h.written t at.prior (omega (arith, h.leads.earlier)) h.counts.order (omega (arith, slice_get_within b p at.high at.first)))
 
 -- how a walk begins and goes on
 pub ruleset walking = (WalksOn_start, WalksOn-label, WalksOn-first, WalksOn-pointer)

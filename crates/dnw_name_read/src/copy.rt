@@ -2,10 +2,33 @@
 ghost use Rattle.std.specs.Prelude.{◌≡◌, ℕ, ◌+◌, ◌≤◌, ◌++◌, length, take, drop};
 ghost use Rattle.dnw_base.specs.Names.{wire};
 ghost use Rattle.dnw_name_read.specs.Buffers.{put};
-ghost use Rattle.dnw_name_read.specs.Inside.Found.{labels_at, StandsAt};
+ghost use Rattle.dnw_name_read.specs.Inside.Found.{labels_at, NameLiesAt, StandsAt};
 
 use crate::walk;
 use dnw_base::limits::POINTER_BITS;
+
+/// Puts the wire form of the name at `first`, of `size` octets, at the front of a buffer: `head` of them from there on in one piece, and the
+/// others from `tail` on, as a walk has found. If `head` is 0, it looks for the pieces.
+#[inline(always)]
+pub fn copy_name(
+    out: &mut [u8],
+    message: &[u8],
+    first: usize,
+    size: usize,
+    head: usize,
+    tail: usize,
+)
+    requires name { (count : ℕ) × NameLiesAt message.now first size count head tail }
+    requires fits { size ≤ length out.old }
+    ensures { out.new ≡ put out.old (wire (labels_at message.now first)) }
+{
+    if head == 0 {
+        copy_runs(out, message, first);
+        return;
+    }
+    put_run(out, 0, &message[first..first + head]);
+    put_run(out, head, &message[tail..tail + (size - head)]);
+}
 
 /// Puts the wire form of the name at `start` at the front of a buffer: each run of octets between two pointers in one piece.
 #[tactic(auto, using(crate::proofs::Copying::copying))]

@@ -2,7 +2,7 @@
 ghost use Rattle.std.specs.Prelude.{◌≡◌, ℕ, ◌+◌, ◌<◌, ◌≤◌, min, length, slice_get, Some, None, unwrap_or, IfOk, IfErr, IfSome, IfNone, OnOk};
 ghost use Rattle.dnw_name_read.specs.Reading.{IsWithin, Stops, FaultAt, target};
 ghost use Rattle.dnw_base.specs.Limits.{max_label, max_labels, pointer_bits, pointer_offsets};
-ghost use Rattle.dnw_name_read.specs.Inside.Walking.{IsElement, IsNoElement, once_followed};
+ghost use Rattle.dnw_name_read.specs.Inside.Walking.{IsElement, IsHead, IsNoElement, once_followed};
 ghost use Rattle.dnw_name_read.specs.Inside.Found.{IsFound};
 
 use dnw_base::error::DecodeError;
@@ -37,8 +37,11 @@ pub struct Walked {
     pub end: usize,
     /// The octets of its wire form.
     pub size: usize,
-    /// `true` if the wire form is at `first`: no pointer is followed from there on.
-    pub in_one_piece: bool,
+    /// How many of these are at `first` in one piece: all if no pointer is followed from there on, and those before the pointer if it is
+    /// the only one. It is 0 if more are followed.
+    pub head: usize,
+    /// The offset of the others, in one piece, unless `head` is 0.
+    pub tail: usize,
 }
 
 /// Walks over the name at `start`, and counts the pointers followed and the labels found.
@@ -81,7 +84,8 @@ fn walk_elements(
                     first,
                     end: own_end(steps.pointers, end, position + 1),
                     size,
-                    in_one_piece: segment == first,
+                    head: head_len(first, segment, limit, size, position + 1 - segment),
+                    tail: segment,
                 });
             }
             Ok(Element::Label(len)) => {
@@ -112,6 +116,22 @@ fn failed(fault: &mut DecodeError, error: DecodeError) -> Option<Walked>
 {
     *fault = error;
     None
+}
+
+/// Returns how many octets of a wire form are at `first` in one piece, or 0 if the others are in more than one. Its last octets, so many,
+/// are in the segment that began at `segment`, and the limit is where the segment before began.
+#[inline(always)]
+fn head_len(first: usize, segment: usize, limit: usize, size: usize, last: usize) -> usize
+    requires { last ≤ size }
+    ensures { IsHead first segment limit size last result }
+{
+    if segment == first {
+        size
+    } else if limit == first {
+        size - last
+    } else {
+        0
+    }
 }
 
 /// Returns where the name's own octets end: after the first pointer if one was followed, else here.

@@ -1,5 +1,5 @@
 -- How a name in a message is kept: the message, and where the name is.
-use Rattle.std.specs.Prelude.{◌≡◌, ℕ, Bool, IsTrue, zero, suc, ◌+◌, ◌-◌, ◌<◌, ◌≤◌, ◌==◌, nat_le, if◌then◌else◌, Option, List, [], ◌∷◌, ◌++◌, length, take, drop, slice_index, slice_range}
+use Rattle.std.specs.Prelude.{◌≡◌, ℕ, zero, suc, ◌+◌, ◌-◌, ◌<◌, ◌≤◌, ◌==◌, nat_le, if◌then◌else◌, Option, List, [], ◌∷◌, ◌++◌, length, take, drop, slice_index, slice_range}
 use Rattle.dnw_name_read.specs.declared.walk.Walked.{Walked}
 use Rattle.dnw_base.specs.Limits.{max_label, max_labels, pointer_bits}
 use Rattle.dnw_base.specs.Names.{encoded_size, wire}
@@ -24,17 +24,24 @@ pub record StandsAt (b : List ℕ) (p e size count pointers : ℕ) : Type 0 wher
   pub size_is : size ≡ encoded_size (labels_at b p)
   pub count_is : count ≡ length (labels_at b p)
 
--- Such a name, which follows no pointer from there on if it is in one piece: then its own octets are its wire form.
-pub record NameLiesAt (b : List ℕ) (p size count : ℕ) (in_one_piece : Bool) : Type 0 where
+-- The wire form of the name at p, of so many octets, is in two pieces: so many octets at p, and the others at tail.
+pub record IsInTwo (b : List ℕ) (p size head tail : ℕ) : Type 0 where
+  pub front : p + head ≤ length b
+  pub part : head ≤ size
+  pub back : tail + (size - head) ≤ length b
+  pub form : slice_range b p (p + head) ++ slice_range b tail (tail + (size - head)) ≡ wire (labels_at b p)
+
+-- Such a name, and its two pieces, if so many octets at p are known to be one. All are if no pointer is followed from there on.
+pub record NameLiesAt (b : List ℕ) (p size count head tail : ℕ) : Type 0 where
   pub end : ℕ
   pub pointers : ℕ
   pub stands : StandsAt b p end size count pointers
-  pub plain : IsTrue in_one_piece → pointers ≡ 0
+  pub pieces : 1 ≤ head → IsInTwo b p size head tail
 
 -- What a walk from p has found: the name, and where its first label is.
 pub record IsFound (b : List ℕ) (p : ℕ) (walked : Walked) (count pointers : ℕ) : Type 0 where
   pub stands : StandsAt b p walked.end walked.size count pointers
-  pub lies : NameLiesAt b walked.first walked.size count walked.in_one_piece
+  pub lies : NameLiesAt b walked.first walked.size count walked.head walked.tail
   pub same : labels_at b walked.first ≡ labels_at b p
 
 -- The labels at p are read there, in a segment that began at s.

@@ -1,10 +1,10 @@
 -- How a walk over a name goes: what it knows between two elements.
-use Rattle.std.specs.Prelude.{◌≡◌, ℕ, zero, suc, ◌+◌, ◌<◌, ◌≤◌, Option, Some, None, List, ◌++◌, length, slice_get, unwrap_or}
+use Rattle.std.specs.Prelude.{◌≡◌, ◌⊎◌, ℕ, zero, suc, ◌+◌, ◌<◌, ◌≤◌, Option, Some, None, List, [], ◌++◌, length, slice_get, slice_range, unwrap_or}
 use Rattle.dnw_base.specs.declared.error.DecodeError.{DecodeError}
 use Rattle.dnw_name_read.specs.declared.walk.Element.{Element}
 use Rattle.dnw_name_read.specs.declared.walk.Element.TheVariants.{End, Label, Pointer}
 use Rattle.dnw_base.specs.Limits.{max_label, max_name, pointer_bits}
-use Rattle.dnw_base.specs.Names.{encoded_size}
+use Rattle.dnw_base.specs.Names.{encoded_size, labels_wire}
 use Rattle.dnw_name_read.specs.Reading.{IsWithin, target, Reads, Stops}
 
 -- the label's octets are there
@@ -63,6 +63,20 @@ pub record WalkCounts (b : List ℕ) (start p s limit size pointers labels : ℕ
   pub back : pointers + s ≤ start
   pub inside : limit ≤ length b
 
+-- The octets of the labels that were passed: those in segments before, and then those of the segment that began at s. There are none
+-- before the first label, and they are in one piece from there on if the limit is there: then the segment before began there.
+pub record PassedOctets (b : List ℕ) (first p s limit : ℕ) (passed : List (List ℕ)) : Type 0 where
+  pub before : List ℕ
+  pub octets : labels_wire passed ≡ before ++ slice_range b s p
+  pub none : s ≡ first → before ≡ []
+  pub piece : limit ≡ first → before ≡ slice_range b first (first + length before)
+  pub inside : limit ≡ first → first + length before ≤ length b
+
+-- So many octets of a wire form are at first, if its last octets are in the segment that began at s: all, or those before them if the
+-- segment before began there; or it is not known how many.
+abbrev pub IsHead : ℕ → ℕ → ℕ → ℕ → ℕ → ℕ → Type 0
+IsHead first s limit size last head = ((s ≡ first) × (head ≡ size)) ⊎ ((limit ≡ first) × (head + last ≡ size)) ⊎ (head ≡ 0)
+
 -- What a walk from start knows at p, with these counts: each reading and each fault from p on is one from the start.
 -- Before the first pointer the limit is the end of the message. After it the limit is the start of the segment before,
 -- and the name's own octets end at end.
@@ -71,6 +85,7 @@ pub record WalksOn (b : List ℕ) (start first p s limit end size pointers label
   pub counts : WalkCounts b start p s limit size pointers labels passed
   pub whole : pointers ≡ 0 → limit ≡ length b
   pub leads : Leads b first p s (once_followed pointers limit) passed
+  pub written : PassedOctets b first p s limit passed
   pub goes_on : GoesOn b start p s (once_followed pointers limit) passed (λ e. unwrap_or (once_followed pointers end) e) pointers
   pub stops : (error : DecodeError) (k j : ℕ)
       → Stops b p s (once_followed pointers limit) size error k j → Stops b start start None 1 error (pointers + k) (labels + j)

@@ -1,5 +1,6 @@
-use Rattle.std.proofs.Common.{refl, add-zero, eqb-true}
+use Rattle.std.proofs.Common.{refl, add-zero, arith}
 use Rattle.dnw_name_read.specs.Reading.{too_long}
+use Rattle.dnw_name_read.proofs.Pieces.{last_few}
 use Rattle.dnw_name_read.proofs.Walking.{WalksOn-end}
 use Rattle.dnw_name_read.proofs.walk.walk_elements.Goals as goal
 
@@ -12,7 +13,12 @@ pub returns-in-Ok-End-clause-some : goal.returns-in-Ok-End-clause-some
 returns-in-Ok-End-clause-some c =
     let there = rw (c.in-Ok-End.is, c.in-Ok-End.field-0-is) at c.next_element.ensures.ok in
     let within = rw c.in-Ok-End.is at c.next_element.ensures.within in
-    WalksOn-end c.elements.invariant within there _ refl refl c.own_end.ensures (eqb-true _ _)
+    WalksOn-end c.elements.invariant within there _ refl refl c.own_end.ensures refl c.head_len.ensures
+
+pub head_len-requires : goal.head_len-requires
+head_len-requires c =
+    let now = c.elements.invariant in
+    omega (arith, now.counts, last_few now.written now.counts.order (omega (arith, c.in-Ok-End.ensures.there)))
 
 pub returns-then-size-gt-MAX_NAME-clause-none : goal.returns-then-size-gt-MAX_NAME-clause-none
 returns-then-size-gt-MAX_NAME-clause-none c =
