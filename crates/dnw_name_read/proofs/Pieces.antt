@@ -6,7 +6,7 @@ use Rattle.std.proofs.lemmas.Option.{get_or_from_slice_get, slice_get_within}
 use Rattle.dnw_base.specs.Names.{encoded_size, label_wire, labels_wire, wire}
 use Rattle.dnw_base.proofs.Wires.{labels_wire_push, length_wire}
 use Rattle.dnw_name_read.specs.Inside.Found.{labels_at, IsInTwo}
-use Rattle.dnw_name_read.specs.Inside.Walking.{IsHead, IsLabelAt, PassedOctets}
+use Rattle.dnw_name_read.specs.Inside.Walking.{IsFirstPiece, IsLabelAt, PassedOctets}
 use Rattle.dnw_name_read.proofs.Copying.{slice_range_split, slice_range_cons}
 use Rattle.dnw_name_read.proofs.Counts.{length_label}
 
@@ -71,7 +71,7 @@ module _ {b : List ℕ} {first p s limit : ℕ} {passed : List (List ℕ)} (h : 
         let inside = slice_get_within b p 0 g in
         omega (arith, size_is, length_wire passed, ap length form, length-append h.before (slice_range b s (p + 1)), length-between b s (p + 1) (omega (arith, inside)))
 
-    pub in_two : (head : ℕ) → IsHead first s limit size (p + 1 - s) head → 1 ≤ head → IsInTwo b first size head s
+    pub in_two : (head : ℕ) → IsFirstPiece first s limit size (p + 1 - s) head → 1 ≤ head → IsInTwo b first size head s
     in_two head (inl (here, all)) some =
         let inside = slice_get_within b p 0 g in
         let none = h.none here in

@@ -6,7 +6,7 @@ use Rattle.dnw_name_read.specs.declared.walk.Walked.{Walked}
 use Rattle.dnw_base.specs.Names.{encoded_size}
 use Rattle.dnw_base.proofs.Wires.{encoded_size_push, no_labels_size}
 use Rattle.dnw_name_read.specs.Reading.{IsWithin, NameAt, zero_octet, label}
-use Rattle.dnw_name_read.specs.Inside.Walking.{IsLabelAt, IsPointerAt, IsHead, once_followed, GoesOn, Leads, PassedOctets, WalksOn}
+use Rattle.dnw_name_read.specs.Inside.Walking.{IsLabelAt, IsPointerAt, IsFirstPiece, once_followed, GoesOn, Leads, PassedOctets, WalksOn}
 use Rattle.dnw_name_read.specs.Inside.Found.{IsFound}
 use Rattle.dnw_name_read.proofs.Counts.{length_label}
 use Rattle.dnw_name_read.proofs.Stand.{Reads_wider}
@@ -50,7 +50,7 @@ module _ {b : List ℕ} {start first p s limit end size pointers labels : ℕ} (
     (w : IsWithin p (once_followed pointers limit)) where
   -- the name ends here
   pub WalksOn-end : slice_get b p ≡ Some 0 → (walked : Walked) → walked.first ≡ first → walked.size ≡ size
-      → walked.end ≡ unwrap_or (once_followed pointers end) (p + 1) → walked.tail ≡ s → IsHead first s limit size (p + 1 - s) walked.head
+      → walked.end ≡ unwrap_or (once_followed pointers end) (p + 1) → walked.tail ≡ s → IsFirstPiece first s limit size (p + 1 - s) walked.head
       → IsFound b start walked labels pointers
   WalksOn-end g walked first_is size_is end_is tail_is head_is =
       let fits : encoded_size h.passed ≤ 255 = omega (arith, h.counts) in

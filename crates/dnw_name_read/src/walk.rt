@@ -2,7 +2,7 @@
 ghost use Rattle.std.specs.Prelude.{◌≡◌, ℕ, ◌+◌, ◌<◌, ◌≤◌, min, length, slice_get, Some, None, unwrap_or, IfOk, IfErr, IfSome, IfNone, OnOk};
 ghost use Rattle.dnw_name_read.specs.Reading.{IsWithin, Stops, FaultAt, target};
 ghost use Rattle.dnw_base.specs.Limits.{max_label, max_labels, pointer_bits, pointer_offsets};
-ghost use Rattle.dnw_name_read.specs.Inside.Walking.{IsElement, IsHead, IsNoElement, once_followed};
+ghost use Rattle.dnw_name_read.specs.Inside.Walking.{IsElement, IsFirstPiece, IsNoElement, once_followed};
 ghost use Rattle.dnw_name_read.specs.Inside.Found.{IsFound};
 
 use dnw_base::error::DecodeError;
@@ -123,7 +123,7 @@ fn failed(fault: &mut DecodeError, error: DecodeError) -> Option<Walked>
 #[inline(always)]
 fn head_len(first: usize, segment: usize, limit: usize, size: usize, last: usize) -> usize
     requires { last ≤ size }
-    ensures { IsHead first segment limit size last result }
+    ensures { IsFirstPiece first segment limit size last result }
 {
     if segment == first {
         size

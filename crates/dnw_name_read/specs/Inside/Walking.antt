@@ -74,8 +74,8 @@ pub record PassedOctets (b : List ℕ) (first p s limit : ℕ) (passed : List (L
 
 -- So many octets of a wire form are at first, if its last octets are in the segment that began at s: all, or those before them if the
 -- segment before began there; or it is not known how many.
-abbrev pub IsHead : ℕ → ℕ → ℕ → ℕ → ℕ → ℕ → Type 0
-IsHead first s limit size last head = ((s ≡ first) × (head ≡ size)) ⊎ ((limit ≡ first) × (head + last ≡ size)) ⊎ (head ≡ 0)
+abbrev pub IsFirstPiece : ℕ → ℕ → ℕ → ℕ → ℕ → ℕ → Type 0
+IsFirstPiece first s limit size last head = ((s ≡ first) × (head ≡ size)) ⊎ ((limit ≡ first) × (head + last ≡ size)) ⊎ (head ≡ 0)
 
 -- What a walk from start knows at p, with these counts: each reading and each fault from p on is one from the start.
 -- Before the first pointer the limit is the end of the message. After it the limit is the start of the segment before,
