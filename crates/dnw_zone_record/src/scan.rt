@@ -1,5 +1,6 @@
 //! Entries of master files.
-ghost use Rattle.std.specs.Prelude.{◌≡◌, ◌≢◌, ◌+◌, ◌-◌, ◌≤◌, ◌<◌, length, take, drop, IfOk, IfSome};
+ghost use Rattle.std.specs.Prelude.{◌≡◌, ◌≢◌, ◌==◌, ◌+◌, ◌-◌, ◌≤◌, ◌<◌, length, take, drop, not, IfOk, IfSome};
+ghost use Rattle.std.specs.List.{list_all};
 ghost use Rattle.dnw_zone_record.specs.declared.scan.Ending.TheVariants.{Line, Text};
 ghost use Rattle.dnw_zone_record.specs.Lines.{end_at, is_kept, is_plain_octet, is_quoted, kept_len, at_line_end, line_of, of_quoted, of_special, on_octet};
 
@@ -26,6 +27,9 @@ static PLAIN: [u8; 256] = [
     1, 1, 1, 1, 1, 1, 1, 1, 1, 1, 1, 1, 1, 1, 1, 1,
     1, 1, 1, 1, 1, 1, 1, 1, 1, 1, 1, 1, 1, 1, 1, 1,
 ];
+
+/// The octets that are looked at together.
+const BLOCK: usize = 16;
 
 /// Where an octet of an entry is.
 #[derive(Clone, Copy)]
@@ -159,7 +163,7 @@ fn split_kept(place: Place, text: &[u8]) -> (&[u8], &[u8])
 fn after_plain(text: &[u8]) -> &[u8]
     ensures { kept_len Place.Words text.now + length result.now ≡ length text.now }
 {
-    let mut left = text;
+    let mut left = after_blocks(text);
     // Four octets a round take less than one.
     'fours: while let [a, b, c, d, rest @ ..] = left {
         if !is_plain_octet(*a)
@@ -178,6 +182,47 @@ fn after_plain(text: &[u8]) -> &[u8]
         left = rest;
     }
     left
+}
+
+/// Returns what is left of a text after octets that are kept outside of quotes, a block at a time.
+#[inline(always)]
+fn after_blocks(text: &[u8]) -> &[u8]
+    ensures within { length result.now ≤ length text.now }
+    ensures kept { (length text.now - length result.now) + kept_len Place.Words result.now ≡ kept_len Place.Words text.now }
+{
+    let mut left = text;
+    'many: while left.len() >= BLOCK {
+        let (block, rest) = left.split_at(BLOCK);
+        if !are_plain(block) {
+            break;
+        }
+        left = rest;
+    }
+    left
+}
+
+/// Returns `true` if octets outside of quotes are kept. It looks at all of them, so that the processor takes many at once.
+#[inline(always)]
+fn are_plain(octets: &[u8]) -> bool
+    ensures { result ≡ list_all is_plain_octet octets.now }
+{
+    let mut least = 255;
+    for c in octets {
+        least = least.min(plain_mark(*c));
+    }
+    least != 0
+}
+
+/// Returns 0 for an octet that outside of quotes, escapes and comments is more than a part of a word or white space, and else another
+/// number. It does not branch.
+#[inline(always)]
+fn plain_mark(c: u8) -> u8
+    ensures { not (result == 0) ≡ is_plain_octet c }
+{
+    let ends = (c ^ b'\n').min(c ^ b'\r');
+    let begins = (c ^ b'"').min(c ^ b'\\').min(c ^ b';');
+    // The two parentheses differ in the last bit.
+    ends.min(begins).min((c ^ b'(') & 254)
 }
 
 /// Returns what is left of a text after the octets that it begins with and that are kept in quotes.
