@@ -5,3 +5,5 @@ pub mod EntryLines
 pub mod Runs
 pub mod Windows
 pub mod DataLengths
+mod UsualWords
+mod Seconds

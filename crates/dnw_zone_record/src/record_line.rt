@@ -1,5 +1,5 @@
 //! Records as lines of master files (RFC 1035, section 5.1), printed and parsed.
-ghost use Rattle.std.specs.Prelude.{◌≡◌, ◌≤◌, ◌+◌, ◌-◌, ℕ, List, [], ◌∷◌, ◌++◌, length, take, drop, IfOk, IfErr, IfSome, MatchOption, string_bytes};
+ghost use Rattle.std.specs.Prelude.{◌≡◌, ◌≤◌, ◌+◌, ◌-◌, ℕ, List, [], ◌∷◌, ◌++◌, length, take, drop, true, IfOk, IfErr, IfSome, MatchOption, string_bytes};
 ghost use Rattle.std.specs.Int.{w16, to_be_bytes};
 ghost use Rattle.std.specs.Option.{option_copied};
 ghost use Rattle.dnw_base.specs.declared.dns_class.DNSClass.{DNSClass};
@@ -69,6 +69,9 @@ impl From<AllocError> for RecordLineError {
 
 /// The octets that a record has room for at first. Most have fewer.
 const FIRST_ROOM: usize = 256;
+
+/// The greatest number of seconds that is given one more digit.
+const MOST_SECONDS: u32 = 429496728;
 
 /// What a line has between the owner and the data.
 #[derive(Clone, Copy)]
@@ -273,14 +276,39 @@ pub fn next_word(text: &[u8]) -> (&[u8], &[u8])
 pub fn ttl_of(word: &[u8]) -> Option<u32>
     ensures { MatchOption result ((n : ℕ) → ¬ (IsTtlWord word.now n)) (IsTtlWord word.now) }
 {
+    if let Some(seconds) = few_seconds(word) {
+        return Some(seconds);
+    }
     let text = str::from_utf8(word).ok()?;
     period_seconds(text)
+}
+
+/// Returns the seconds that a word is, if it is digits alone and no digit brings them near 2^32, as those of most times to live.
+fn few_seconds(word: &[u8]) -> Option<u32>
+    ensures { IfSome result (IsTtlWord word.now) }
+{
+    if word.is_empty() {
+        return None;
+    }
+    let mut seconds = 0;
+    let mut left = word;
+    while let Some((c, rest)) = left.split_first() {
+        if seconds > MOST_SECONDS || !c.is_ascii_digit() {
+            return None;
+        }
+        seconds = 10 * seconds + u32::from(*c - b'0');
+        left = rest;
+    }
+    Some(seconds)
 }
 
 /// Returns the class that a word is. `*` is none: it asks for all classes.
 pub fn class_of(word: &[u8]) -> Option<DNSClass>
     ensures { MatchOption result ((class : DNSClass) → ¬ (IsClassWord word.now class)) (IsClassWord word.now) }
 {
+    if is_internet(word) {
+        return Some(DNSClass::IN);
+    }
     if is_asterisk(word) {
         return None;
     }
@@ -288,15 +316,60 @@ pub fn class_of(word: &[u8]) -> Option<DNSClass>
     DNSClass::from_text(text)
 }
 
+/// Returns `true` for `IN`, as nearly every class is.
+#[inline(always)]
+fn is_internet(word: &[u8]) -> bool
+    ensures { result ≡ true → IsClassWord word.now DNSClass.IN }
+{
+    word == b"IN".as_slice()
+}
+
 /// Returns the record type that a word is. `*` is none: it asks for all types.
 pub fn type_of(word: &[u8]) -> Option<RecordType>
     ensures { MatchOption result ((record_type : RecordType) → ¬ (IsTypeWord word.now record_type)) (IsTypeWord word.now) }
 {
+    if let Some(record_type) = usual_type(word) {
+        return Some(record_type);
+    }
     if is_asterisk(word) {
         return None;
     }
     let text = str::from_utf8(word).ok()?;
     RecordType::from_text(text)
+}
+
+/// Returns the record type that a word is, for those that most records of zone files have.
+fn usual_type(word: &[u8]) -> Option<RecordType>
+    ensures { IfSome result (IsTypeWord word.now) }
+{
+    if word == b"A".as_slice() {
+        return Some(RecordType::A);
+    }
+    if word == b"NS".as_slice() {
+        return Some(RecordType::NS);
+    }
+    if word == b"AAAA".as_slice() {
+        return Some(RecordType::AAAA);
+    }
+    if word == b"RRSIG".as_slice() {
+        return Some(RecordType::RRSIG);
+    }
+    if word == b"NSEC3".as_slice() {
+        return Some(RecordType::NSEC3);
+    }
+    if word == b"DS".as_slice() {
+        return Some(RecordType::DS);
+    }
+    if word == b"MX".as_slice() {
+        return Some(RecordType::MX);
+    }
+    if word == b"TXT".as_slice() {
+        return Some(RecordType::TXT);
+    }
+    if word == b"CNAME".as_slice() {
+        return Some(RecordType::CNAME);
+    }
+    None
 }
 
 /// Returns the octets of the data that a text is.
