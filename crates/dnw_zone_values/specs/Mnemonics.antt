@@ -1,4 +1,4 @@
--- Numbers that have names in master files: algorithms of DNSSEC, types of certificates, and schemes of DSYNC. A name is in upper or lower case.
+-- Numbers that have names in master files: algorithms of DNSSEC, types of certificates, schemes of DSYNC, protocols and services. A name is in upper or lower case.
 use Rattle.std.specs.Prelude.{◌≡◌, ◌≤◌, ℕ, Bool, true, false, if◌then◌else◌, List, [], ◌∷◌, codes, Option, Some, None}
 use Rattle.std.specs.Char.{is_ascii_digit}
 use Rattle.std.specs.Str.{str_eq_ignore_ascii_case}
@@ -49,6 +49,54 @@ certificate_type_named name =
 -- the number of a scheme of DSYNC (RFC 9859, section 2.1)
 abbrev pub scheme_named : List ℕ → Option ℕ
 scheme_named name = if str_eq_ignore_ascii_case name (codes "NOTIFY") then Some 1 else None
+
+-- the number of a protocol: those of IANA's registry "Protocol Numbers" that RFC 1010 has, as WKS names them (RFC 1035, section 3.4.2)
+abbrev pub protocol_named : List ℕ → Option ℕ
+protocol_named name =
+    if str_eq_ignore_ascii_case name (codes "ICMP") then Some 1
+    else if str_eq_ignore_ascii_case name (codes "IGMP") then Some 2
+    else if str_eq_ignore_ascii_case name (codes "GGP") then Some 3
+    else if str_eq_ignore_ascii_case name (codes "TCP") then Some 6
+    else if str_eq_ignore_ascii_case name (codes "EGP") then Some 8
+    else if str_eq_ignore_ascii_case name (codes "UDP") then Some 17
+    else None
+
+-- the port of a service, which is the same for each protocol: well-known ones of IANA's registry of services and ports
+abbrev pub service_named : List ℕ → Option ℕ
+service_named name =
+    if str_eq_ignore_ascii_case name (codes "echo") then Some 7
+    else if str_eq_ignore_ascii_case name (codes "discard") then Some 9
+    else if str_eq_ignore_ascii_case name (codes "systat") then Some 11
+    else if str_eq_ignore_ascii_case name (codes "daytime") then Some 13
+    else if str_eq_ignore_ascii_case name (codes "netstat") then Some 15
+    else if str_eq_ignore_ascii_case name (codes "qotd") then Some 17
+    else if str_eq_ignore_ascii_case name (codes "chargen") then Some 19
+    else if str_eq_ignore_ascii_case name (codes "ftp-data") then Some 20
+    else if str_eq_ignore_ascii_case name (codes "ftp") then Some 21
+    else if str_eq_ignore_ascii_case name (codes "ssh") then Some 22
+    else if str_eq_ignore_ascii_case name (codes "telnet") then Some 23
+    else if str_eq_ignore_ascii_case name (codes "smtp") then Some 25
+    else if str_eq_ignore_ascii_case name (codes "time") then Some 37
+    else if str_eq_ignore_ascii_case name (codes "whois") then Some 43
+    else if str_eq_ignore_ascii_case name (codes "domain") then Some 53
+    else if str_eq_ignore_ascii_case name (codes "bootps") then Some 67
+    else if str_eq_ignore_ascii_case name (codes "bootpc") then Some 68
+    else if str_eq_ignore_ascii_case name (codes "tftp") then Some 69
+    else if str_eq_ignore_ascii_case name (codes "gopher") then Some 70
+    else if str_eq_ignore_ascii_case name (codes "finger") then Some 79
+    else if str_eq_ignore_ascii_case name (codes "http") then Some 80
+    else if str_eq_ignore_ascii_case name (codes "kerberos") then Some 88
+    else if str_eq_ignore_ascii_case name (codes "pop3") then Some 110
+    else if str_eq_ignore_ascii_case name (codes "sunrpc") then Some 111
+    else if str_eq_ignore_ascii_case name (codes "auth") then Some 113
+    else if str_eq_ignore_ascii_case name (codes "nntp") then Some 119
+    else if str_eq_ignore_ascii_case name (codes "ntp") then Some 123
+    else if str_eq_ignore_ascii_case name (codes "imap2") then Some 143
+    else if str_eq_ignore_ascii_case name (codes "snmp") then Some 161
+    else if str_eq_ignore_ascii_case name (codes "bgp") then Some 179
+    else if str_eq_ignore_ascii_case name (codes "ldap") then Some 389
+    else if str_eq_ignore_ascii_case name (codes "https") then Some 443
+    else None
 
 abbrev pub begins_with_digit : List ℕ → Bool
 begins_with_digit [] = false
