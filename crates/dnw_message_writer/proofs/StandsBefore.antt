@@ -1,13 +1,19 @@
 -- Labels that stand in octets before the gap.
-use Rattle.std.proofs.Common.{◌≡◌, ℕ, ◌+◌, ◌<◌, ◌≤◌, List, ◌∷◌, length, take, sym, subst, inl, inr, refl, arith}
+use Rattle.std.proofs.Common.{◌≡◌, ℕ, ◌+◌, ◌<◌, ◌≤◌, List, ◌∷◌, length, take, sym, ap, ◌∙◌, subst, inl, inr, refl, arith}
+use Rattle.std.proofs.lemmas.List.{length-append, length-take-le}
 use Rattle.std.specs.List.{AllByRecursion}
 use Rattle.dnw_base.specs.Labels.{IsLabel}
 use Rattle.dnw_base.specs.Names.{wire}
+use Rattle.dnw_base.proofs.Wires.{wire_cons}
 use Rattle.dnw_message_writer.specs.declared.standing.Spot.{Spot}
 use Rattle.dnw_message_writer.specs.Standing.{FollowsPointer, IsThere, StandsFrom, StandsSettled, after_octets}
 use Rattle.dnw_message_writer.specs.Inside.Standing.{FollowsBefore, AreNextBefore}
 use Rattle.dnw_message_writer.proofs.Stands.{stands_on}
 use Rattle.dnw_message_writer.proofs.Wholes.{whole_stands}
+
+-- a label is no longer than the wire form that it begins
+length_label : (label : List ℕ) (later : List (List ℕ)) → length label + 1 ≤ length (wire (label ∷ later))
+length_label label later = omega (arith, ap length (wire_cons label later), length-append label (wire later))
 
 -- the same spot, in a segment that ends elsewhere
 abbrev pub with_limit : ℕ → Spot → Spot
@@ -16,6 +22,7 @@ with_limit limit s = record { position = s.position; segment = s.segment; limit 
 -- A reading of some labels has come to a spot, whose limit is before the gap and the end of its segment, and these are left.
 pub record Reaches (b : List ℕ) (gap start : ℕ) (all : List (List ℕ)) (s : Spot) (left : List (List ℕ)) : Type 0 where
   pub end : ℕ
+  pub here : s.position ≤ s.limit
   pub more : s.limit ≤ end
   pub before : s.limit ≤ gap
   pub within : gap ≤ length b
@@ -115,8 +122,11 @@ module _ (b : List ℕ) (gap start : ℕ) (all : List (List ℕ)) where
         let header = l.after_header in
         let order = l.order in
         let on = stands_on b gap (with_limit g.end s) (with_limit l.other t) left later label form l.follows split form_is (there_in (take (length label + 1) form) is) in
+        let taken = length-take-le (length label + 1) form (omega (arith, ap length (form_is ∙ ap wire split), length_label label later)) in
+        let fits = is.fits in
         record {
           end = l.other;
+          here = omega (arith, fits, taken);
           more = l.more;
           before = l.before;
           within = g.within;

@@ -62,7 +62,7 @@ pub fn stands_at(message: &[u8], gap: usize, start: usize, labels: WireLabels<'_
 
 /// Returns `true` only if these labels are read at `start`, in octets between the header and the gap, and mostly if they are: it takes
 /// fewer steps than `stands_at`.
-#[inline(never)]
+#[inline(always)]
 pub(crate) fn stands_before(
     message: &[u8],
     gap: usize,
@@ -73,6 +73,9 @@ pub(crate) fn stands_before(
     requires header { 12 ≤ start }
     ensures { IsTrue result → StandsSettled message.now gap start labels.entry }
 {
+    if start > gap {
+        return false;
+    }
     let mut rest = labels;
     let mut spot = Spot {
         position: start,
@@ -105,10 +108,11 @@ pub(crate) fn stands_before(
 /// Follows the pointer that is next, if there is one, if the two octets that are next are before the limit.
 #[inline(always)]
 fn followed_before(message: &[u8], spot: Spot) -> Option<Spot>
+    requires here { spot.position ≤ spot.limit }
     requires limit { spot.limit ≤ length message.now }
     ensures { IfSome result (FollowsBefore message.now spot) }
 {
-    if spot.position >= spot.limit || spot.limit - spot.position < 2 {
+    if spot.limit - spot.position < 2 {
         return None;
     }
     if message[spot.position] < POINTER_BITS {
@@ -129,12 +133,13 @@ fn followed_before(message: &[u8], spot: Spot) -> Option<Spot>
 /// Returns `true` only if a segment begins with these octets, up to its limit.
 #[inline(always)]
 fn is_whole_before(message: &[u8], spot: Spot, octets: &[u8]) -> bool
+    requires some { 1 ≤ length octets.now }
     requires before { spot.position < spot.limit }
     requires limit { spot.limit ≤ length message.now }
     ensures { IsTrue result → AreNextBefore message.now spot octets.now }
 {
     let size = octets.len();
-    if spot.position != spot.segment || size == 0 || size > spot.limit - spot.position {
+    if spot.position != spot.segment || size > spot.limit - spot.position {
         return false;
     }
     // Mostly another last octet shows that they are others.

@@ -5,6 +5,7 @@ use Rattle.dnw_message_writer.proofs.standing.stands_before.Goals as goal
 pub labels-init : goal.labels-init
 labels-init c = record {
   end = length c.args.message.now;
+  here = omega (arith, c.if-start-gap.false);
   more = omega (arith, c.requires.gap);
   before = omega arith;
   within = c.requires.gap;
