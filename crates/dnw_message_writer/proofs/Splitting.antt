@@ -1,9 +1,9 @@
 -- Data that are taken apart, field by field.
-use Rattle.std.proofs.Common.{◌≡◌, ℕ, ◌+◌, ◌-◌, ◌==◌, ◌<◌, ◌≤◌, Bool, true, false, None, Some, List, [], ◌∷◌, ◌++◌, length, take, drop, inl, inr, refl, sym, ap, ◌∙◌, subst, append_assoc, arith}
+use Rattle.std.proofs.Common.{◌≡◌, ◌≢◌, ℕ, ◌+◌, ◌-◌, ◌==◌, ◌<◌, ◌≤◌, Bool, true, false, None, Some, List, [], ◌∷◌, ◌++◌, length, take, drop, inl, inr, refl, sym, ap, ◌∙◌, subst, append_assoc, arith}
 use Rattle.std.specs.Prelude.{◌&&◌, ◌||◌, nat_le, not, slice_index}
 use Rattle.std.specs.List.{flat_map}
 use Rattle.std.proofs.lemmas.Bool.{cases_Bool, eqb-true, leb-true}
-use Rattle.std.proofs.lemmas.List.{drop_at, length-append, length-take-le, take-append-drop, take_at}
+use Rattle.std.proofs.lemmas.List.{drop_all, drop_at, length-append, length-take-le, take-append-drop, take_at}
 use Rattle.std.proofs.lemmas.Option.{none-some}
 use Rattle.dnw_base.specs.Decoder.{Decoder}
 use Rattle.dnw_base.specs.declared.error.DecodeError.{DecodeError}
@@ -22,7 +22,7 @@ use Rattle.dnw_record.specs.DataCopies.{alone}
 use Rattle.dnw_record.specs.Inside.Copying.{IsNoName}
 use Rattle.dnw_record.proofs.Pieces.{name_again}
 use Rattle.dnw_message_writer.specs.Data.{AreOfData, StartsNoName, are_to_compress, is_to_compress, names_among, names_to_compress, whole_octets}
-use Rattle.dnw_message_writer.specs.Inside.Splitting.{HasField, HasNoField, IsPlain, last_compressed, most_pieces}
+use Rattle.dnw_message_writer.specs.Inside.Splitting.{HasField, HasNoField, IsPlain, is_usual_name, last_compressed, most_pieces}
 use Rattle.dnw_message_writer.specs.declared.pieces.Piece.{Piece}
 
 -- ---- the first field
@@ -199,6 +199,21 @@ of_name kind ks octets ls x xs is are split x_is names (fields, has, of) =
       },
     )
 
+-- a field alone is a piece
+no_pieces : (octets : List ℕ) → octets ≡ [] → AreOfData [] octets []
+no_pieces octets is = ([], record { are = tt; whole = is }, record { whole = refl; names = λ at. refl })
+
+pub name_alone : (kind : Kind) (octets : List ℕ) (ls : List (List ℕ)) (x : Piece) → is_to_compress kind ≡ true → AreLabels ls
+    → octets ≡ wire ls ++ drop (length (wire ls)) octets → length (wire ls) ≡ length octets → whole_octets x ≡ wire ls
+    → ((at : ℕ) → names_among at (x ∷ []) ≡ (at, ls) ∷ []) → AreOfData (kind ∷ []) octets (x ∷ [])
+name_alone kind octets ls x is are split size x_is names =
+    of_name kind [] octets ls x [] is are split x_is names (no_pieces _ (drop_all (length (wire ls)) octets (omega (arith, size))))
+
+pub own_alone : (kind : Kind) (octets own : List ℕ) (x : Piece) → is_to_compress kind ≡ false → HasField kind octets own → length own ≡ length octets
+    → whole_octets x ≡ own → ((at : ℕ) → names_among at (x ∷ []) ≡ []) → AreOfData (kind ∷ []) octets (x ∷ [])
+own_alone kind octets own x other has size x_is names =
+    of_own kind [] octets own x [] other has x_is names (no_pieces _ (drop_all (length own) octets (omega (arith, size))))
+
 -- what follows a name is data of the other kinds
 pub data_after : (kind : Kind) (ks : List Kind) (octets : List ℕ) (ls : List (List ℕ)) → is_to_compress kind ≡ true → AreLabels ls
     → octets ≡ wire ls ++ drop (length (wire ls)) octets → IsData (kind ∷ ks) octets → IsData ks (drop (length (wire ls)) octets)
@@ -302,3 +317,39 @@ late_types class code [] above = elim (cases_Bool (may_lack_data class code)) [
   | inr must ↦ rw must (late_some class code [] above)
 ]
 late_types class code (octet ∷ octets) above = late_some class code (octet ∷ octets) above
+
+-- ---- usual types
+
+some_data : (class code : ℕ) (octets : List ℕ) → octets ≢ [] → fields_of class code octets ≡ fields_of_some class code octets
+unfolding fields_of
+some_data class code [] some = absurd (some refl)
+some_data class code (octet ∷ octets) some = refl
+
+two_alone : (class : ℕ) (octets : List ℕ) → fields_of_some class 2 octets ≡ kinds.Name Compressible ∷ []
+unfolding is_internet_type
+two_alone class octets = elim (cases_Bool (is_like_internet class)) [ inl like ↦ rw like refl | inr other ↦ rw other refl ]
+
+five_alone : (class : ℕ) (octets : List ℕ) → fields_of_some class 5 octets ≡ kinds.Name Compressible ∷ []
+unfolding is_internet_type
+five_alone class octets = elim (cases_Bool (is_like_internet class)) [ inl like ↦ rw like refl | inr other ↦ rw other refl ]
+
+twelve_alone : (class : ℕ) (octets : List ℕ) → fields_of_some class 12 octets ≡ kinds.Name Compressible ∷ []
+unfolding is_internet_type
+twelve_alone class octets = elim (cases_Bool (is_like_internet class)) [ inl like ↦ rw like refl | inr other ↦ rw other refl ]
+
+pub named_alone : (class code : ℕ) (octets : List ℕ) → is_usual_name code ≡ true → octets ≢ [] → fields_of class code octets ≡ kinds.Name Compressible ∷ []
+named_alone class code octets is some = some_data class code octets some ∙ elim (cases_Bool (code == 2)) [
+  | inl two ↦ ap (λ n. fields_of_some class n octets) (eqb-true code 2 two) ∙ two_alone class octets
+  | inr not_two ↦ elim (cases_Bool (code == 5)) [
+    | inl five ↦ ap (λ n. fields_of_some class n octets) (eqb-true code 5 five) ∙ five_alone class octets
+    | inr not_five ↦
+        let twelve : (code == 12) ≡ true = rw (not_two, not_five) at is in
+        ap (λ n. fields_of_some class n octets) (eqb-true code 12 twelve) ∙ twelve_alone class octets
+  ]
+]
+
+pub four_alone : (class code : ℕ) (octets : List ℕ) → class ≡ 1 → code ≡ 1 → octets ≢ [] → fields_of class code octets ≡ kinds.Ipv4 ∷ []
+four_alone class code octets internet is some = ap (λ n. fields_of n code octets) internet ∙ ap (λ n. fields_of 1 n octets) is ∙ some_data 1 1 octets some
+
+pub six_alone : (class code : ℕ) (octets : List ℕ) → class ≡ 1 → code ≡ 28 → octets ≢ [] → fields_of class code octets ≡ kinds.Ipv6 ∷ []
+six_alone class code octets internet is some = ap (λ n. fields_of n code octets) internet ∙ ap (λ n. fields_of 1 n octets) is ∙ some_data 1 28 octets some

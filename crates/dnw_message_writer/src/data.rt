@@ -1,10 +1,10 @@
 //! The data of records as pieces, by the table of the fields of each type.
-ghost use Rattle.std.specs.Prelude.{◌≡◌, ◌↔◌, ◌+◌, ◌<◌, ◌≤◌, ◌∷◌, ◌++◌, [], List, length, drop, take, IfSome, IfNone, IsTrue, true, false};
+ghost use Rattle.std.specs.Prelude.{◌≡◌, ◌≢◌, ◌↔◌, ◌+◌, ◌<◌, ◌≤◌, ◌∷◌, ◌++◌, [], ℕ, List, length, drop, take, IfSome, IfNone, IsTrue, true, false};
 ghost use Rattle.dnw_base.specs.Names.{AreLabels, wire};
 ghost use Rattle.dnw_data.specs.Table.{fields_of};
 ghost use Rattle.dnw_data.specs.Values.{counted_size, own_size};
 ghost use Rattle.dnw_message_writer.specs.Data.{AreOfData, StartsNoName, are_to_compress, is_to_compress};
-ghost use Rattle.dnw_message_writer.specs.Inside.Splitting.{HasField, HasNoField, IsPlain, last_compressed, most_pieces};
+ghost use Rattle.dnw_message_writer.specs.Inside.Splitting.{HasField, HasNoField, IsPlain, is_usual_name, last_compressed, most_pieces};
 ghost use Rattle.dnw_message_writer.specs.declared.pieces.Piece.{Piece};
 ghost use Rattle.dnw_record.specs.DataPieces.{IsData};
 ghost use Rattle.dnw_record.specs.Inside.Copying.{IsNoName};
@@ -76,19 +76,103 @@ impl<'a> Pieces<'a> {
 /// Returns the pieces of data of a class and a type, by their codes: the names that may be compressed, which are those of the types of
 /// RFC 1035 (RFC 3597, section 4), and the octets between them. Returns `None` if the octets are not data of the class and type, with
 /// every name in its wire form. Nothing is allocated.
+// Mostly data are one piece, for which the table need not be asked.
 #[inline(always)]
 pub fn pieces_of(class: u16, record_type: u16, octets: &[u8]) -> Option<Pieces<'_>>
     ensures some { IfSome result (AreOfData (fields_of class record_type octets.now) octets.now) }
     ensures none { IfNone result (IsData (fields_of class record_type octets.now) octets.now → ⊥) }
 {
+    let mut pieces = Pieces::new();
+    if let Some(piece) = only_piece_of(class, record_type, octets) {
+        pieces.push(piece);
+        return Some(pieces);
+    }
     let class = DNSClass::from(class);
     let kinds = fields_of(class, RecordType::from(record_type), octets);
-    let mut pieces = Pieces::new();
     if put_data(record_type, kinds, octets, &mut pieces) {
         Some(pieces)
     } else {
         None
     }
+}
+
+/// Returns the piece that data of a class and a type are, by their codes: a name that may be compressed, or octets without one. Mostly
+/// data are one. Returns `None` if they are more, or if the octets are no data of the class and type; and it may for others.
+#[inline(always)]
+pub(crate) fn only_piece_of(class: u16, record_type: u16, octets: &[u8]) -> Option<Piece<'_>>
+    ensures { IfSome result (λ piece. AreOfData (fields_of class record_type octets.now) octets.now (piece ∷ [])) }
+{
+    if octets.is_empty() {
+        return None;
+    }
+    if let Some(kind) = usual_kind(class, record_type) {
+        return only_field(kind, octets);
+    }
+    let class = DNSClass::from(class);
+    let kinds = fields_of(class, RecordType::from(record_type), octets);
+    only_piece(record_type, kinds, octets)
+}
+
+/// Returns the kind of the only field that data of a class and a type have, if they are an address or a name: mostly they are.
+#[inline(always)]
+#[tactic(auto, using(crate::proofs::Splitting::named_alone, crate::proofs::Splitting::four_alone, crate::proofs::Splitting::six_alone))]
+fn usual_kind(class: u16, record_type: u16) -> Option<Kind>
+    ensures { IfSome result (λ kind. (octets : List ℕ) → octets ≢ [] → fields_of class record_type octets ≡ kind ∷ []) }
+{
+    if is_usual_name(record_type) {
+        return Some(Kind::Name(NameForm::Compressible));
+    }
+    if class != 1 {
+        return None;
+    }
+    match record_type {
+        1 => Some(Kind::Ipv4),
+        28 => Some(Kind::Ipv6),
+        _ => None,
+    }
+}
+
+/// Returns `true` for the types whose data are a name alone, and are mostly written.
+#[inline(always)]
+fn is_usual_name(record_type: u16) -> bool
+    ensures { result ≡ is_usual_name record_type }
+{
+    record_type == 2 || record_type == 5 || record_type == 12
+}
+
+/// Returns the piece that data of a type, by its code, with fields of these kinds are, as `only_piece_of` does.
+#[inline(always)]
+fn only_piece<'a>(record_type: u16, kinds: &[Kind], octets: &'a [u8]) -> Option<Piece<'a>>
+    requires { last_compressed < record_type → are_to_compress kinds.now ≡ false }
+    ensures { IfSome result (λ piece. AreOfData kinds.now octets.now (piece ∷ [])) }
+{
+    let (kind, others) = kinds.split_first()?;
+    if others.is_empty() {
+        return only_field(*kind, octets);
+    }
+    if record_type > LAST_COMPRESSED && are_data(kinds, octets) {
+        return Some(Piece::Octets(octets));
+    }
+    None
+}
+
+/// Returns the piece that data of one field are.
+#[inline(always)]
+fn only_field(kind: Kind, octets: &[u8]) -> Option<Piece<'_>>
+    ensures { IfSome result (λ piece. AreOfData (kind ∷ []) octets.now (piece ∷ [])) }
+{
+    if is_to_compress(kind) {
+        let labels = whole_name(octets)?;
+        if labels.as_wire().len() != octets.len() {
+            return None;
+        }
+        return Some(Piece::Name(labels));
+    }
+    let own = first_field(kind, octets)?;
+    if own.len() != octets.len() {
+        return None;
+    }
+    Some(Piece::Octets(own))
 }
 
 /// Adds the pieces of data of a type, by its code, with fields of these kinds, or returns `false` if the octets are no such data.

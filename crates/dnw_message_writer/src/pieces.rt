@@ -41,6 +41,7 @@ impl Default for Piece<'_> {
 
 /// Writes pieces at `at`, one after the other, up to `limit` at most, and returns where they end. If there is no room, it returns
 /// `None`, and the message is unchanged up to `at`.
+#[inline(always)]
 pub(crate) fn put_pieces(
     message: &mut [u8],
     at: usize,

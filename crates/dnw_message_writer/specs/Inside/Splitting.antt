@@ -1,5 +1,5 @@
 -- Data that are taken apart, field by field.
-use Rattle.std.specs.Prelude.{◌≡◌, ℕ, ◌+◌, None, if◌then◌else◌, List, [], ◌∷◌, ◌++◌, drop, length}
+use Rattle.std.specs.Prelude.{◌≡◌, ℕ, ◌+◌, ◌==◌, ◌||◌, Bool, None, if◌then◌else◌, List, [], ◌∷◌, ◌++◌, drop, length}
 use Rattle.dnw_data.specs.declared.kind.Kind.{Kind}
 use Rattle.dnw_data.specs.Values.{own_fault}
 use Rattle.dnw_record.specs.DataPieces.{DataPiece, IsPieceOf, piece_octets}
@@ -21,6 +21,10 @@ IsPlain kind = (own : List ℕ) → own_fault kind own ≡ None
 -- the code of MX: no later type has a name that may be compressed (RFC 3597, section 4)
 abbrev pub last_compressed : ℕ
 last_compressed = 15
+
+-- the types whose data are a name alone and are mostly written: NS, CNAME and PTR (RFC 1035, sections 3.3.1, 3.3.11 and 3.3.12)
+abbrev pub is_usual_name : ℕ → Bool
+is_usual_name code = code == 2 || (code == 5 || code == 12)
 
 -- no data with fields of these kinds have more pieces
 abbrev pub most_pieces : List Kind → ℕ
