@@ -22,7 +22,7 @@ use crate::section::{Section, WriteError};
 use crate::set::{cut_off, two_at};
 use crate::standing::FIRST_ITEM;
 use crate::state::WriterState;
-use crate::taking::{MOST_NAMES, pieces_in};
+use crate::taking::{MOST_NAMES, octets_in, pieces_in};
 use dnw_base::limits::{MAX_NAME, MAX_POINTERS};
 use dnw_base::record_type::RecordType;
 use dnw_data::fields::FieldError;
@@ -87,6 +87,28 @@ impl WriterState {
     /// only if a name in the data that may not be compressed has a pointer.
     #[inline(always)]
     pub fn record_of(
+        &mut self,
+        alloc: Global,
+        message: &mut [u8],
+        section: Section,
+        item: &RecordRef<'_>,
+    ) -> Result<(), CopyError>
+        ensures ok { OnOk result (AddsItem section (copied_form item.now) self.old message.old self.new message.new) }
+        ensures err { IfErr result (FailsToAddCopy section item.now self.old message.old) }
+        ensures same { OnErr result ((self.new ≡ self.old) × (take self.old.end message.new ≡ take self.old.end message.old)) }
+    {
+        let Some(piece) = octets_in(item) else {
+            return self.record_named(alloc, message, section, item);
+        };
+        match self.add_pieces(message, section, item, &[piece]) {
+            Ok(()) => Ok(()),
+            Err(error) => Err(CopyError::Write(error)),
+        }
+    }
+
+    /// Adds a record of another message, as `record_of` does. Mostly its data have a name that may be compressed.
+    #[inline(never)]
+    fn record_named(
         &mut self,
         alloc: Global,
         message: &mut [u8],
@@ -200,8 +222,30 @@ impl WriterState {
         ensures same { OnErr result ((self.new ≡ self.old) × (take self.old.end message.new ≡ take self.old.end message.old)) }
         ensures fit { (record_type < 2 ^ 16) × (class < 2 ^ 16) × (ttl < 2 ^ 32) × AreLabels owner.now }
     {
-        let mut room = [0; MAX_NAME];
         let _len = owner.encoded_len();
+        let Some(labels) = owner.labels_in_place() else {
+            return self.add_gathered(message, section, owner, record_type, class, ttl, pieces);
+        };
+        self.record(message, section, labels, record_type, class, ttl, pieces)
+    }
+
+    /// Adds a record, as `add_owned` does, whose owner does not stand in one piece.
+    #[inline(never)]
+    fn add_gathered(
+        &mut self,
+        message: &mut [u8],
+        section: Section,
+        owner: &NameRef<'_>,
+        record_type: u16,
+        class: u16,
+        ttl: u32,
+        pieces: &[Piece<'_>],
+    ) -> Result<(), WriteError>
+        ensures ok { OnOk result (AddsItem section (record_form slot_of owner.now record_type class ttl pieces.now) self.old message.old self.new message.new) }
+        ensures err { IfErr result (FailsToAdd section (record_past slot_of owner.now record_type class ttl pieces.now) self.old message.old) }
+        ensures same { OnErr result ((self.new ≡ self.old) × (take self.old.end message.new ≡ take self.old.end message.old)) }
+    {
+        let mut room = [0; MAX_NAME];
         let labels = owner.wire_labels(&mut room);
         self.record(message, section, labels, record_type, class, ttl, pieces)
     }
@@ -517,9 +561,23 @@ fn are_alike(alloc: Global, some: &NameRef<'_>, other: &NameRef<'_>) -> bool
     other.eq_name(&name)
 }
 
-/// Returns `true` if two names have the same wire form.
+/// Returns `true` if two names have the same wire form. Mostly both stand in one piece.
 #[inline(always)]
 fn has_form_of(some: &NameRef<'_>, other: &NameRef<'_>) -> bool
+    ensures { IsTrue result → some.now ≡ other.now }
+{
+    let Some(labels) = some.labels_in_place() else {
+        return has_gathered_form_of(some, other);
+    };
+    let Some(others) = other.labels_in_place() else {
+        return has_gathered_form_of(some, other);
+    };
+    are_same(labels.as_wire(), others.as_wire())
+}
+
+/// Returns `true` if two names have the same wire form, wherever they stand.
+#[inline(never)]
+fn has_gathered_form_of(some: &NameRef<'_>, other: &NameRef<'_>) -> bool
     ensures { IsTrue result → some.now ≡ other.now }
 {
     let mut room = [0; MAX_NAME];

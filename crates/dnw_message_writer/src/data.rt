@@ -253,7 +253,7 @@ pub(crate) fn are_to_compress(kinds: &[Kind]) -> bool
 }
 
 /// Returns `true` if the octets are data with fields of these kinds.
-fn are_data(kinds: &[Kind], octets: &[u8]) -> bool
+pub(crate) fn are_data(kinds: &[Kind], octets: &[u8]) -> bool
     ensures { IsTrue result ↔ IsData kinds.now octets.now }
 {
     let Some((kind, others)) = kinds.split_first() else {

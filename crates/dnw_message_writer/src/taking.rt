@@ -1,10 +1,10 @@
 //! The data of records of other messages as pieces, without a copy of them.
-ghost use Rattle.std.specs.Prelude.{◌≡◌, ◌+◌, ◌≤◌, ◌++◌, List, length, IfSome, IsTrue};
+ghost use Rattle.std.specs.Prelude.{◌≡◌, ◌+◌, ◌≤◌, ◌∷◌, ◌++◌, [], List, length, IfSome, IsTrue};
 ghost use Rattle.dnw_message_writer.specs.Inside.Splitting.{most_pieces};
 ghost use Rattle.dnw_message_writer.specs.Inside.Taken.{IsCopiedIn, TakesAsPieces};
 ghost use Rattle.dnw_message_writer.specs.declared.pieces.Piece.{Piece};
 
-use crate::data::{Pieces, are_to_compress, first_field, is_to_compress, split};
+use crate::data::{Pieces, are_data, are_to_compress, first_field, is_to_compress, split};
 use crate::pieces::Piece;
 use dnw_base::decoder::BinDecoder;
 use dnw_base::limits::MAX_NAME;
@@ -14,6 +14,22 @@ use dnw_record::record_ref::RecordRef;
 
 /// No data have more names that may be compressed: those of SOA are two.
 pub(crate) const MOST_NAMES: usize = 2;
+
+/// Returns the piece that the data of a record are, if no name among them may be compressed: octets of its message.
+///
+/// It returns `None` for others, and if they are no fields of their class and type, or if a name has a pointer.
+#[inline(always)]
+pub(crate) fn octets_in<'m>(item: &RecordRef<'m>) -> Option<Piece<'m>>
+    ensures { IfSome result (λ piece. IsCopiedIn item.now (piece ∷ [])) }
+{
+    let kinds = item.kinds();
+    let reader = item.data_decoder();
+    let octets = &reader.message()[reader.index()..];
+    if are_to_compress(kinds) || !are_data(kinds, octets) {
+        return None;
+    }
+    Some(Piece::Octets(octets))
+}
 
 /// Returns the data of a record as pieces: octets of its message, and the names that may be compressed. Names that have pointers are
 /// put into `rooms`.

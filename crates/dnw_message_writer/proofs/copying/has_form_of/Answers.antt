@@ -9,6 +9,6 @@ same_labels ls ms a b are others one two same = sym (labels_of_form a ls one are
 
 pub returns : goal.returns
 returns c = λ yes.
-    sym c.wire_labels.ensures
-    ∙ (same_labels _ _ _ _ c.as_wire-form.ensures.labels c.as_wire.ensures.labels c.as_wire-form.ensures.form c.as_wire.ensures.form (c.are_same.ensures yes)
-    ∙ c.wire_labels-2.ensures)
+    sym c.in-Some.ensures
+    ∙ (same_labels _ _ _ _ c.as_wire.ensures.labels c.as_wire-2.ensures.labels c.as_wire.ensures.form c.as_wire-2.ensures.form (c.are_same.ensures yes)
+    ∙ c.in-Some-labels_in_place.ensures)
