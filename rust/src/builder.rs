@@ -587,10 +587,13 @@ impl MessageBuilder {
         self
     }
 
-    /// Moves what was added at the end to the end of its section.
+    /// Moves what was added at the end to the end of its section. Mostly it is there.
+    #[inline]
     fn added(&mut self, section: u8, start: usize) {
         let (section, added) = (usize::from(section), self.items.len() - start);
-        self.items[self.ends[section]..].rotate_right(added);
+        if self.ends[section] < start {
+            self.items[self.ends[section]..].rotate_right(added);
+        }
         self.ends[section..].iter_mut().for_each(|end| *end += added);
     }
 }

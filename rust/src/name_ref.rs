@@ -71,6 +71,7 @@ impl<'a> NameRef<'a> {
     }
 
     /// Appends the wire form.
+    #[inline]
     pub(crate) fn put(&self, octets: &mut impl Sink) {
         self.with_form(|form| octets.extend_from_slice(form));
     }
