@@ -11,6 +11,7 @@ use crate::zone_place::FilePlace;
 use dnw_base::dns_class::DNSClass;
 use dnw_base::limits::MAX_NAME;
 use dnw_name::name::Name;
+use dnw_name::name_ref::NameRef;
 use dnw_name_form::form::WireForm;
 use dnw_name_form::wire_labels::WireLabels;
 use dnw_zone_file::context::Context;
@@ -159,19 +160,31 @@ fn fill_owner(alloc: Global, owner: &mut Option<WireForm>, form: &[u8]) -> bool
     }
     match ref_of(form) {
         Ok(found) => {
-            let mut room = [0; MAX_NAME];
-            *owner = Some(form_of(alloc, found.wire_labels(&mut room)));
+            keep_owner(alloc, owner, &found);
             true
         }
         Err(_) => false,
     }
 }
 
-/// Returns the wire form of labels, as an owner.
-fn form_of(alloc: Global, labels: WireLabels<'_>) -> WireForm
-    ensures { result ≡ labels.entry }
+/// Changes an owner into the labels of a name. The form is made in its place, so that it is not moved.
+fn keep_owner(alloc: Global, owner: &mut Option<WireForm>, name: &NameRef<'_>)
+    ensures { owner.new ≡ Some name.now }
 {
-    WireForm::from_octets(alloc, labels.as_wire())
+    *owner = Some(WireForm::new(alloc));
+    if let Some(form) = owner {
+        copy_labels(form, name);
+    }
+}
+
+/// Changes a form into the labels of a name, which are mostly in one piece.
+fn copy_labels(form: &mut WireForm, name: &NameRef<'_>)
+    ensures { form.new ≡ name.now }
+{
+    match name.labels_in_place() {
+        Some(labels) => form.copy_octets(labels.as_wire()),
+        None => form.copy_octets(name.wire_labels(&mut [0; MAX_NAME]).as_wire()),
+    }
 }
 
 /// Returns the wire form of the origin.

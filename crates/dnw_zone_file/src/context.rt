@@ -22,6 +22,7 @@ pub struct Context {
 
 impl Context {
     /// Creates what is known before the first entry.
+    #[inline(always)]
     pub fn new(origin: Name) -> Self
         ensures { IsFirst origin result }
     {

@@ -234,7 +234,7 @@ fn put_owner(last: &mut Option<WireForm>, owner: &WireForm)
     ensures { last.new ≡ Some owner.now }
 {
     match last {
-        Some(form) => form.copy_octets(owner.labels().as_wire()),
+        Some(form) => form.clone_from(owner),
         None => *last = Some(owner.clone()),
     }
 }
