@@ -17,7 +17,7 @@ use dnw_name_form::form::WireForm;
 use dnw_record::record_ref::RecordRef;
 use dnw_zone_data::data_text::{append_in_line, data_text};
 use dnw_zone_data::error::DataTextError;
-use dnw_zone_data::name::{read_name, write_name};
+use dnw_zone_data::name::{fill_name, write_name};
 use dnw_zone_data::number_form::period_seconds;
 use dnw_zone_data::words::{after_spaces, is_asterisk, split_word};
 use std::alloc::{AllocError, Global};
@@ -141,9 +141,10 @@ pub(crate) fn record_of(
     ensures ok { IfOk result (λ own. IsRecordOf (option_copied origin.entry) word.now rest.now own.items) }
     ensures err { IfErr result (FailsRecordOf (option_copied origin.entry) len word.now rest.now) }
 {
-    let Some(owner) = read_name(alloc, word, origin) else {
+    let mut owner = WireForm::new(alloc);
+    if !fill_name(&mut owner, word, origin) {
         return Err(RecordLineError::NoOwner);
-    };
+    }
     match after_owner(alloc, len, &owner, rest, origin) {
         Ok(octets) => Ok(octets),
         Err(error) => Err(error),
