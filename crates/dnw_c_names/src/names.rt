@@ -1,8 +1,9 @@
 //! Names read, written, parsed and printed.
-ghost use Rattle.std.specs.Prelude.{◌≡◌, ℕ, ◌<◌, ◌≤◌, List, length, Ok, IfOk, IfErr, OnOk};
+ghost use Rattle.std.specs.Prelude.{◌≡◌, ℕ, ◌<◌, ◌≤◌, true, List, Option, length, Ok, IfSome, IfNone, IfOk, IfErr, OnOk};
 ghost use Rattle.dnw_base.specs.Limits.{max_name, max_pointers};
 ghost use Rattle.dnw_base.specs.Names.{wire};
 ghost use Rattle.dnw_name_text.specs.AsciiText.{max_text};
+ghost use Rattle.dnw_name_text.specs.NameReading.{name_of_text};
 ghost use Rattle.dnw_name_text.specs.NameTexts.{text_of_name};
 ghost use Rattle.dnw_write.specs.Encoder.{Encoder};
 ghost use Rattle.dnw_write.specs.EncoderValue.{value, lender};
@@ -26,8 +27,8 @@ use dnw_c_base::results::report;
 use dnw_name::name::Name;
 use dnw_name_form::form::WireForm;
 use dnw_name_form::wire_labels::WireLabels;
-use dnw_name_text::printing::{MAX_TEXT, push_name};
-use dnw_name_text::reading::read_into;
+use dnw_name_text::printing::{MAX_TEXT, push_name, put_plain_text};
+use dnw_name_text::reading::{put_plain_form, read_into};
 use dnw_write::binary::BinEncodable;
 use dnw_write::encoder::BinEncoder;
 use std::alloc::Global;
@@ -159,6 +160,9 @@ fn parse(alloc: Global, text: &[u8], origin: &[u8], form: &mut [u8]) -> Result<P
     ensures { ParsesName text.now origin.now form.old form.new result }
 {
     let labels = origin_labels(origin)?;
+    if let Some(parsed) = parse_plain(text, form) {
+        return parsed;
+    }
     let mut name = WireForm::new(alloc);
     match read_into(&mut name, text, labels) {
         Ok(is_fqdn) => {
@@ -167,6 +171,29 @@ fn parse(alloc: Global, text: &[u8], origin: &[u8], form: &mut [u8]) -> Result<P
         }
         Err(error) => Err(of_rule(error.rule)),
     }
+}
+
+/// Puts the wire form of the name that a text gives, whatever the origin is, if the text ends in a dot and has no escapes.
+#[inline(always)]
+fn parse_plain(text: &[u8], form: &mut [u8]) -> Option<Result<ParsedName, Failure>>
+    ensures some { IfSome result (λ parsed. (labels : List (List ℕ))
+        × ((origin : Option (List (List ℕ))) → name_of_text origin text.now ≡ Ok (record { is_fqdn = true; labels = labels }))
+        × PutsWithin max_name (wire labels) (record { len = length (wire labels); is_fqdn = true }) form.old form.new parsed) }
+    ensures none { IfNone result (form.new ≡ form.old) }
+{
+    let mut room = [0; MAX_NAME];
+    let len = put_plain_form(&mut room, text)?;
+    Some(put_parsed(form, &room[..len]))
+}
+
+/// Puts the wire form of a name that is fully qualified.
+#[inline(always)]
+fn put_parsed(form: &mut [u8], octets: &[u8]) -> Result<ParsedName, Failure>
+    requires { length octets.now ≤ max_name }
+    ensures { PutsWithin max_name octets.now (record { len = length octets.now; is_fqdn = true }) form.old form.new result }
+{
+    let len = put(form, octets)?;
+    Ok(ParsedName { len, is_fqdn: true })
 }
 
 /// Puts the text of the name with a wire form, and returns its length.
@@ -266,6 +293,11 @@ fn put_text(buffer: &mut [u8], labels: WireLabels<'_>, is_fqdn: bool) -> Result<
     ensures { PutsWithin max_text (text_of_name (record { is_fqdn = is_fqdn; labels = labels.entry }))
         (length (text_of_name (record { is_fqdn = is_fqdn; labels = labels.entry }))) buffer.old buffer.new result }
 {
+    if is_fqdn {
+        if let Some(len) = put_plain_text(buffer, labels.clone()) {
+            return Ok(len);
+        }
+    }
     let mut text = ArrayString::<MAX_TEXT>::new();
     push_name(&mut text, labels, is_fqdn);
     put(buffer, text.as_bytes())

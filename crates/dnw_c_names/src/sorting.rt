@@ -44,17 +44,20 @@ fn keyed(alloc: Global, names: &[u8]) -> Result<SortKeys, Failure>
     let mut decoder = BinDecoder::new(names);
     let mut left = MAX_POINTERS;
     let mut keys = SortKeys::new(alloc);
+    let mut room = [0; MAX_NAME];
     'list: while !decoder.is_empty() {
-        push_next(&mut decoder, &mut left, &mut keys)?;
+        push_next(&mut decoder, &mut left, &mut keys, &mut room)?;
     }
     Ok(keys)
 }
 
-/// Adds the sort key of the name at the cursor of a list. The pointers that it follows are taken from those that are `left`.
+/// Adds the sort key of the name at the cursor of a list. The pointers that it follows are taken from those that are `left`. A name in
+/// more than one piece is copied into the room.
 fn push_next(
     decoder: &mut BinDecoder<'_>,
     left: &mut usize,
     keys: &mut SortKeys,
+    room: &mut [u8; MAX_NAME],
 ) -> Result<(), Failure>
     ensures ok { OnOk result ((labels : List (List ℕ)) × TakesNextName decoder.old left.old labels decoder.new left.new
         × (keys.new ≡ keys.old ++ sort_key labels ∷ [])) }
@@ -64,8 +67,7 @@ fn push_next(
     ensures bytes { decoder.new.bytes ≡ decoder.old.bytes }
 {
     let name = next_name(decoder, left)?;
-    let mut room = [0; MAX_NAME];
-    keys.push(name.wire_labels(&mut room))?;
+    keys.push(name.wire_labels(room))?;
     Ok(())
 }
 
