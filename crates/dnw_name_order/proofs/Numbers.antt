@@ -1,6 +1,6 @@
 -- Numbers of names, sorted by the names' keys.
 use Rattle.std.proofs.Common.{◌≡◌, ℕ, ◌+◌, ◌<◌, Bool, true, false, List, [], ◌∷◌, ◌++◌, length, map, get_or, refl, sym, ap, ◌∙◌, subst, arith, nat_eq, rules, tests}
-use Rattle.std.specs.Global.{Vec}
+use Rattle.smallvec.specs.SmallVec.{SmallVec}
 use Rattle.std.specs.Cmp.{IsTotalOrder}
 use Rattle.std.specs.Cmp.Lexicographic.{slice_cmp}
 use Rattle.std.specs.List.{All, range_with_len, IsDistinct}
@@ -24,7 +24,7 @@ abbrev Names : Type 0
 Names = List (List (List ℕ))
 
 abbrev Entry : Type 0
-Entry = Vec ℕ × ℕ
+Entry = SmallVec ℕ × ℕ
 
 -- the entry has the key of the name with its number
 abbrev HasKey : Names → Entry → Type 0
@@ -140,7 +140,7 @@ range_more n =
     let moved = map-range_with_len_more (λ (x : ℕ). x) 0 n n (omega arith) in
     sym (map-id (range_with_len 0 (n + 1))) ∙ moved ∙ ap (λ (l : List ℕ). l ++ n ∷ []) (map-id (range_with_len 0 n))
 
-pub numbered_more : (entries : List Entry) (key : Vec ℕ) (number : ℕ) → AreNumbered entries → number ≡ length entries → AreNumbered (entries ++ (key, number) ∷ [])
+pub numbered_more : (entries : List Entry) (key : SmallVec ℕ) (number : ℕ) → AreNumbered entries → number ≡ length entries → AreNumbered (entries ++ (key, number) ∷ [])
 numbered_more entries key number h count =
     map-append number_of entries ((key, number) ∷ [])
     ∙ ap (λ (l : List ℕ). l ++ number ∷ []) h

@@ -6,8 +6,12 @@ ghost use Rattle.dnw_name_order.specs.Inside.Keyed.{AreSorted};
 
 use crate::sort_key::{self, MAX_SORT_KEY_LENGTH};
 use dnw_name_form::wire_labels::WireLabels;
+use smallvec::SmallVec;
 use std::alloc::{AllocError, Global};
 use std::marker::Model;
+
+/// A sort key. Most names have a short one, which is kept inline, so that they are sorted without an allocation for each.
+type Key = SmallVec<u8, 30>;
 
 /// The sort keys of names, which are numbered from 0.
 ///
@@ -15,7 +19,9 @@ use std::marker::Model;
 #[derive(Drop)]
 pub struct SortKeys {
     // Each key with the number of its name.
-    entries: Vec<(Vec<u8>, usize)>,
+    entries: Vec<(Key, usize)>,
+    // Where a key is made. It is cleared once, and not for each key.
+    room: [u8; MAX_SORT_KEY_LENGTH],
 }
 
 impl Model for SortKeys {
@@ -36,6 +42,7 @@ impl SortKeys {
     {
         SortKeys {
             entries: Vec::new(alloc),
+            room: [0; MAX_SORT_KEY_LENGTH],
         }
     }
 
@@ -52,10 +59,9 @@ impl SortKeys {
         ensures added { OnOk result (self.new ≡ self.old ++ sort_key labels.entry ∷ []) }
         ensures same { OnErr result (self.new ≡ self.old) }
     {
-        let mut room = [0; MAX_SORT_KEY_LENGTH];
-        let key = Vec::from_slice(
+        let key = SmallVec::from_slice(
             *self.entries.allocator(),
-            sort_key::of_labels(labels, &mut room),
+            sort_key::of_labels(labels, &mut self.room),
         )?;
         self.entries.reserve(1)?;
         let number = self.entries.len();
@@ -69,7 +75,7 @@ impl SortKeys {
         ensures in_order { (names : List (List (List ℕ))) → self ≡ map sort_key names → AreInOrder names result }
         ensures len { length result ≡ length self }
     {
-        let SortKeys { entries } = self;
+        let SortKeys { entries, room: _ } = self;
         CanonicalOrder {
             entries: by_keys(entries),
         }
@@ -77,7 +83,7 @@ impl SortKeys {
 }
 
 /// Sorts entries by their keys, and those of equal keys by their numbers.
-fn by_keys(mut entries: Vec<(Vec<u8>, usize)>) -> Vec<(Vec<u8>, usize)>
+fn by_keys(mut entries: Vec<(Key, usize)>) -> Vec<(Key, usize)>
     ensures sorted { AreSorted entries.items result.items }
     ensures len { length result.items ≡ length entries.items }
 {
@@ -90,7 +96,7 @@ fn by_keys(mut entries: Vec<(Vec<u8>, usize)>) -> Vec<(Vec<u8>, usize)>
 /// A contract sees it as the list of the numbers.
 #[derive(Drop)]
 pub struct CanonicalOrder {
-    entries: Vec<(Vec<u8>, usize)>,
+    entries: Vec<(Key, usize)>,
 }
 
 impl Model for CanonicalOrder {
