@@ -1,7 +1,7 @@
 """Verifies signatures of other signers over the octets that this library says they cover: signers.py
 
 ldns-signzone, dnssec-signzone and Net::DNS::SEC sign sets of every type that they take, of those in SETS: owners and names with
-capitals, wildcards, and records that are there twice. The records come back in a message as hostile servers may send them: in
+capitals, wildcards, and records that are there twice. The records are put into a message as hostile servers may send them: in
 any order, some twice, among those of other sets, with smaller times to live, names compressed where receivers have to decompress
 them (RFC 3597, section 4), capitals changed where canonical form has none (RFC 4034, section 6.2), and names that a wildcard made.
 Each signature verifies over the octets of `dnw_signed_octets`, which `Record.signed_octets` returns too. A changed record fails.
