@@ -17,7 +17,7 @@ from servers import record
 ORIGIN = dns.name.from_text("example.")
 
 # The types that the program reads without a text of their own here: their texts are not parsed.
-GENERIC = {"TKEY", "TSIG", "TYPE10", "TYPE731", "WKS"}
+GENERIC = {"TKEY", "TSIG", "TYPE10", "TYPE731"}
 MORE = [
     ("RFC 1035, section 5.1", 'TXT "a\\"b\\\\c\\007\\255"', "NS a\\.b\\032c\\200.example.", "MX 10 \\@\\;\\(.example."),
     ("RFC 4034, section 4.2", "NSEC . A NS SOA MX TXT AAAA SRV RRSIG NSEC DNSKEY CAA", "NSEC a.example. TYPE65535"),

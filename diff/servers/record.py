@@ -61,7 +61,7 @@ REFUSED = {"bind": {"MD", "MF"}, "knot": set(), "powerdns": set()}
 # The types whose data have a text of their own here. Those of the others are shown as RFC 3597 does.
 TEXTS = set("""A NS MD MF CNAME SOA MB MG MR PTR HINFO MINFO MX TXT RP AFSDB RT PX SIG KEY AAAA SRV NAPTR KX CERT DNAME DS SSHFP
     RRSIG DNSKEY NSEC3PARAM TLSA SMIMEA CDS CDNSKEY OPENPGPKEY ZONEMD SPF URI CAA NSEC NSEC3 CSYNC EUI48 EUI64 SVCB HTTPS IPSECKEY HIP LOC APL NID L64
-    NSAP""".split())
+    NSAP WKS""".split())
 
 # Those whose letters are hexadecimal digits, which dnspython has in lower case.
 HEXADECIMAL = {"DS", "CDS", "SSHFP", "TLSA", "SMIMEA", "ZONEMD", "NSEC3PARAM"}

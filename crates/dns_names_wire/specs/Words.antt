@@ -157,7 +157,7 @@ pub use Rattle.dnw_zone_values.specs.ParamTexts.{param_text, params_text}
 pub use Rattle.dnw_zone_values.specs.Mandatory.{keeps_mandatory}
 pub use Rattle.dnw_zone_values.specs.ParamWords.{IsParam}
 pub use Rattle.dnw_zone_values.specs.ParamLaws.{IsParamValue, ParamsComeBack}
-pub use Rattle.dnw_zone_data.specs.DataTextLaws.{FieldAddressesComeBack, CountedComeBack, FieldIdentifiersComeBack, FieldLocatorsComeBack, FieldNamesComeBack, FieldPrefixesComeBack, NameListsComeBack, NumbersComeBack, OctetsComeBack, SegmentsComeBack, ShapesComeBack, StringsComeBack, TypesComeBack}
+pub use Rattle.dnw_zone_data.specs.DataTextLaws.{FieldAddressesComeBack, FieldBitmapsComeBack, CountedComeBack, FieldIdentifiersComeBack, FieldLocatorsComeBack, FieldNamesComeBack, FieldPrefixesComeBack, NameListsComeBack, NumbersComeBack, OctetsComeBack, SegmentsComeBack, ShapesComeBack, StringsComeBack, TypesComeBack}
 pub use Rattle.dnw_zone_data.specs.DataTextLaws.{DataAreUnambiguous, DataComeBack, GenericComesBack, GenericIsParsed, ListsComeBack, PrintedDataAreSame, TextsAreParsed, IsFieldReadBack, FieldComesBack, FollowsField, IsReadType, IsDataOctets}
 pub use Rattle.dnw_zone_record.specs.RecordTextLaws.{LinesAreUnambiguous, LinesComeBack, PrintedLinesAreSame, line_head}
 -- Zone files, read and written.

@@ -28,6 +28,7 @@ use Rattle.dnw_zone_values.proofs.ParamTextsBack.{drop_fit, halves, octets_fit, 
 use Rattle.dnw_data.specs.FieldWires.{field_wire}
 use Rattle.dnw_zone_data.specs.DataTextLaws.{FieldComesBack}
 use Rattle.dnw_zone_data.proofs.ListedBack.{locator_field, node_field, nsap_field, prefixes_field}
+use Rattle.dnw_zone_data.proofs.BitmapsBack.{ports_back, old_types_back}
 use Rattle.dnw_zone_data.proofs.FieldsBack.{first, u8_back, u16_back, u32_back, time_back, type_back, ipv4_back, string_back, tag_back, salt_back, hash_back, octets_back, text_back, strings_back}
 use Rattle.dnw_zone_data.proofs.GatewaysBack.{shaped_back}
 use Rattle.dnw_zone_data.proofs.NameListsBack.{names_back}
@@ -150,10 +151,8 @@ field_back (kinds.Octets Base32Hex) d value after h takes few =
     by_value (kinds.Octets Base32Hex) value (octets (own_at (kinds.Octets Base32Hex) d)) takes.2 (λ origin way text rest print end. absurd print)
 field_back (kinds.Octets MaybeBase64) d value after h takes few =
     by_value (kinds.Octets MaybeBase64) value (octets (own_at (kinds.Octets MaybeBase64) d)) takes.2 (λ origin way text rest print end. absurd print)
-field_back (kinds.Octets Ports) d value after h takes few =
-    by_value (kinds.Octets Ports) value (octets (own_at (kinds.Octets Ports) d)) takes.2 (λ origin way text rest print end. absurd print)
-field_back (kinds.Octets OldTypes) d value after h takes few =
-    by_value (kinds.Octets OldTypes) value (octets (own_at (kinds.Octets OldTypes) d)) takes.2 (λ origin way text rest print end. absurd print)
+field_back (kinds.Octets Ports) d value after h takes few = by_value (kinds.Octets Ports) value _ takes.2 (ports_back _ (own_fit (kinds.Octets Ports) d h))
+field_back (kinds.Octets OldTypes) d value after h takes few = by_value (kinds.Octets OldTypes) value _ takes.2 (old_types_back _ (own_fit (kinds.Octets OldTypes) d h))
 field_back (kinds.Octets Nsap) d value after h takes few = by_value (kinds.Octets Nsap) value _ takes.2 (nsap_field _ (own_fit (kinds.Octets Nsap) d h))
 field_back (kinds.List lists.Prefixes) d value after h takes few =
     let kind = kinds.List lists.Prefixes in by_value kind value _ takes.2 (prefixes_field (own_at kind d) (own_fit kind d h))
@@ -161,7 +160,8 @@ field_back (kinds.List lists.Names) d value after h takes few =
     let kind = kinds.List lists.Names in by_value kind value _ takes.2 (names_back (own_at kind d) (own_fit kind d h))
 field_back (kinds.List lists.Texts) d value after h takes few =
     let kind = kinds.List lists.Texts in
-    by_value kind value _ takes.2 (strings_back (own_at kind d) (own_fit kind d h) (omega (arith, own_len kind d takes.0, some (length (drop d.index d.bytes)))))
+    let short = subst (λ (v : FieldValue). length (field_wire v) ≤ 65535) takes.2 few in
+    by_value kind value _ takes.2 (strings_back (own_at kind d) (own_fit kind d h) (omega (arith, own_len kind d takes.0, some (length (drop d.index d.bytes)))) short)
 field_back (kinds.List lists.Types) d value after h takes few =
     let kind = kinds.List lists.Types in by_value kind value _ takes.2 (types_back (own_at kind d) (own_fit kind d h) takes.1)
 field_back (kinds.List lists.Params) d value after h takes few =

@@ -36,7 +36,8 @@ use Rattle.dnw_zone_values.proofs.StringText.{string, text}
 use Rattle.dnw_zone_data.specs.declared.extent.Extent.TheVariants.{One}
 use Rattle.dnw_zone_data.specs.declared.number_form.NumberForm.{NumberForm}
 use Rattle.dnw_zone_data.specs.Words.{is_asterisk, is_end, quoted_len, word_len, word, after_word, after_spaces}
-use Rattle.dnw_zone_data.specs.Parsing.{extent_of, IsWord, AreStringWords, AreTexts, ReadsField}
+use Rattle.dnw_zone_data.specs.Parsing.{extent_of, IsWord, ReadsField}
+use Rattle.dnw_zone_data.specs.StringLists.{AreStringWords, AreTexts}
 use Rattle.dnw_zone_data.specs.Printing.{strings_text}
 use Rattle.dnw_zone_data.specs.DataTextLaws.{IsReadType, IsFieldReadBack, FieldComesBack}
 use Rattle.dnw_zone_data.specs.Generic.{generic_mark, hex_part}
@@ -324,15 +325,15 @@ strings_no_mark (s ∷ strings) h e =
     let start : after_spaces (strings_text (s ∷ strings)) ≡ string_text s ++ strings_text strings = refl in
     quoted_other s (sym (string_word s (strings_text strings) fit (strings_end strings)) ∙ ap word (sym start) ∙ e)
 
-texts_of : (own : List ℕ) (strings : List (List ℕ)) → own ≡ flat_map label_wire strings → IsOctets own → 1 ≤ length own
+texts_of : (own : List ℕ) (strings : List (List ℕ)) → own ≡ flat_map label_wire strings → IsOctets own → 1 ≤ length own → length own ≤ 65535
     → AreTexts (after_spaces (strings_text strings)) (texts (items lists.Texts own))
-texts_of own [] e h some = absurd (omega (arith, some, ap length e))
-texts_of own (s ∷ strings) e h some =
+texts_of own [] e h some few = absurd (omega (arith, some, ap length e))
+texts_of own (s ∷ strings) e h some few =
     let words = strings_words (s ∷ strings) (subst IsOctets e h) in
-    (s, strings, words, ap (λ (xs : List ℕ). texts (items lists.Texts xs)) e)
+    (s, strings, words, subst (λ (xs : List ℕ). length xs ≤ 65535) e few, ap (λ (xs : List ℕ). texts (items lists.Texts xs)) e)
 
-pub strings_back : (own : List ℕ) → IsOctets own → 1 ≤ length own → FieldComesBack (ListOf lists.Texts) (texts (items lists.Texts own))
-strings_back own h some origin way printed rest print end =
+pub strings_back : (own : List ℕ) → IsOctets own → 1 ≤ length own → length own ≤ 65535 → FieldComesBack (ListOf lists.Texts) (texts (items lists.Texts own))
+strings_back own h some few origin way printed rest print end =
     let (strings, are, e) = print in
     let none : rest ≡ [] = end.0 refl in
-    rw (none, e, append-nil) ((texts_of own strings are h some, refl), strings_no_mark strings (subst IsOctets are h), strings_end strings)
+    rw (none, e, append-nil) ((texts_of own strings are h some few, refl), strings_no_mark strings (subst IsOctets are h), strings_end strings)

@@ -47,18 +47,15 @@ end6 origin text own (inr (inl is)) = absurd (omega (arith, is.0))
 end6 origin text own (inr (inr (inl is))) = (is.1, is.2, is.3, is.4)
 end6 origin text own (inr (inr (inr is))) = absurd (omega (arith, is.0))
 
-two_more : (old own : List ℕ) (a b : ℕ) → ((old ++ a ∷ []) ++ b ∷ []) ++ own ≡ old ++ a ∷ b ∷ own
-two_more old own a b = append_assoc (old ++ a ∷ []) (b ∷ []) own ∙ append_assoc old (a ∷ []) (b ∷ own)
-
-pub as_gateway : {E : Type 0} (origin : Option NameValue) (first second third old one two new : List ℕ) (type algorithm : ℕ) (read : Result Bool E) → IsNumberText max_u8 first type
-    → IsNumberText max_u8 second algorithm → one ≡ old ++ type ∷ [] → two ≡ one ++ algorithm ∷ [] → IfOk read (PushesOne (IsGatewayEnd origin type third) two new)
+pub as_gateway : {E : Type 0} (origin : Option NameValue) (first second third old two new : List ℕ) (type algorithm : ℕ) (read : Result Bool E) → IsNumberText max_u8 first type
+    → IsNumberText max_u8 second algorithm → two ≡ old ++ type ∷ algorithm ∷ [] → IfOk read (PushesOne (IsGatewayEnd origin type third) two new)
     → IfOk read (AppendsOne (IsGateway origin first second third) old new)
-as_gateway origin first second third old one two new type algorithm (Ok true) t g e f h =
-    let octets : new ≡ old ++ type ∷ algorithm ∷ h.0 = h.2 ∙ ap (λ (xs : List ℕ). xs ++ h.0) (f ∙ ap (λ (xs : List ℕ). xs ++ algorithm ∷ []) e) ∙ two_more old h.0 type algorithm in
+as_gateway origin first second third old two new type algorithm (Ok true) t g e h =
+    let octets : new ≡ old ++ type ∷ algorithm ∷ h.0 = h.2 ∙ ap (λ (xs : List ℕ). xs ++ h.0) e ∙ append_assoc old (type ∷ algorithm ∷ []) h.0 in
     (of_shape Gateway (type ∷ algorithm ∷ h.0), (type, algorithm, h.0, t, g, h.1, refl), octets)
-as_gateway origin first second third old one two new type algorithm (Ok false) t g e f h =
+as_gateway origin first second third old two new type algorithm (Ok false) t g e h =
     λ value is. h is.2 (subst (λ (n : ℕ). IsGatewayEnd origin n third is.2) (sym is.3.1 ∙ t.1) is.5)
-as_gateway origin first second third old one two new type algorithm (Err x) t g e f h = h
+as_gateway origin first second third old two new type algorithm (Err x) t g e h = h
 
 pub as_relay : {E : Type 0} (origin : Option NameValue) (first second third old one new : List ℕ) (flag type : ℕ) (read : Result Bool E) → IsNumberText 1 first flag
     → IsNumberText max_u8 second type → one ≡ old ++ (relay_flag * flag + type) ∷ [] → IfOk read (PushesOne (IsGatewayEnd origin type third) one new)

@@ -1,5 +1,7 @@
 pub mod Empty
 pub mod TypeSteps
+pub mod BitmapSteps
+pub mod BitmapsBack
 pub mod PrefixSteps
 pub mod PrefixListsBack
 pub mod LocatorsBack

@@ -6,10 +6,10 @@ use Rattle.std.specs.List.{list_all}
 use Rattle.std.proofs.lemmas.Bool.{and_parts}
 use Rattle.std.proofs.lemmas.Fmt.{decimal_by_steps, decimal_nonempty}
 use Rattle.dnw_zone_lexer.specs.Times.{groups_after, time_seconds, total_seconds}
-use Rattle.dnw_zone_values.specs.Mnemonics.{IsNumberOrName, algorithm_named, begins_with_digit, certificate_type_named, scheme_named}
+use Rattle.dnw_zone_values.specs.Mnemonics.{IsNumberOrName, algorithm_named, begins_with_digit, certificate_type_named, protocol_named, scheme_named}
 use Rattle.dnw_zone_values.proofs.ComeBack.{numbers}
 use Rattle.dnw_zone_data.specs.declared.number_form.NumberForm.{NumberForm}
-use Rattle.dnw_zone_data.specs.declared.number_form.NumberForm.TheVariants.{Decimal, Period, Algorithm, CertificateType, Scheme}
+use Rattle.dnw_zone_data.specs.declared.number_form.NumberForm.TheVariants.{Decimal, Period, Algorithm, CertificateType, Scheme, Protocol}
 use Rattle.dnw_zone_data.specs.NumberForms.{is_whole, IsNumberIn, IsPeriod}
 
 digit : (d : ℕ) → d < 10 → is_ascii_digit (48 + d) ≡ true
@@ -55,7 +55,7 @@ period n few =
 
 -- ---- each form
 
-named_or : (named : List ℕ → Option ℕ) (max n : ℕ) → max ≤ 4294967295 → n ≤ max → IsNumberOrName named max (decimal n) n
+pub named_or : (named : List ℕ → Option ℕ) (max n : ℕ) → max ≤ 4294967295 → n ≤ max → IsNumberOrName named max (decimal n) n
 named_or named max n fits few =
     let begins = first_digit (decimal n) (decimal_nonempty n (omega (arith, fits, few))) (decimal_digits n (omega (arith, fits, few))) in
     rw begins (numbers max (omega (arith, fits)) n few).0
@@ -66,3 +66,4 @@ in_any_form Period max n fits few = (period n (omega (arith, fits, few)), few)
 in_any_form Algorithm max n fits few = named_or algorithm_named max n fits few
 in_any_form CertificateType max n fits few = named_or certificate_type_named max n fits few
 in_any_form Scheme max n fits few = named_or scheme_named max n fits few
+in_any_form Protocol max n fits few = named_or protocol_named max n fits few

@@ -20,7 +20,7 @@ use Rattle.dnw_data.specs.declared.kind.Shown.{Shown}
 use Rattle.dnw_data.specs.declared.kind.Shown.TheVariants.{Text, Tag, Hex, Base32Hex, Base64, MaybeBase64, Nsap, Ports, OldTypes}
 use Rattle.dnw_data.specs.Table.{fields_of}
 use Rattle.dnw_data.specs.Values.{FieldValue, name, u8, u16, u32, ipv4, ipv6, type_code, time, counted, octets, texts, types, params, names, items}
-use Rattle.dnw_zone_values.specs.Mnemonics.{IsNumberOrName, algorithm_named, begins_with_digit, certificate_type_named, scheme_named}
+use Rattle.dnw_zone_values.specs.Mnemonics.{IsNumberOrName, algorithm_named, begins_with_digit, certificate_type_named, protocol_named, scheme_named, service_named}
 use Rattle.dnw_zone_values.specs.Octets.{IsOctets, IsHexText, IsBase64Text, IsSaltText}
 use Rattle.dnw_zone_values.specs.Strings.{IsTextWithin}
 use Rattle.dnw_zone_values.specs.Times.{IsDateText, IsTimeText}
@@ -34,16 +34,18 @@ use Rattle.dnw_zone_data.proofs.PrefixListsBack.{one_prefixes}
 use Rattle.dnw_zone_data.specs.declared.extent.Extent.{Extent}
 use Rattle.dnw_zone_data.specs.declared.extent.Extent.TheVariants.{One, Three, All}
 use Rattle.dnw_zone_data.specs.declared.number_form.NumberForm.{NumberForm}
-use Rattle.dnw_zone_data.specs.declared.number_form.NumberForm.TheVariants.{Decimal, Period, Algorithm, CertificateType, Scheme}
+use Rattle.dnw_zone_data.specs.declared.number_form.NumberForm.TheVariants.{Decimal, Period, Algorithm, CertificateType, Scheme, Protocol}
 use Rattle.dnw_zone_data.specs.NumberForms.{first_form, number_forms, other_forms, IsNumberIn}
 use Rattle.dnw_zone_data.specs.Gateways.{AreShape, IsGatewayEnd, IsGateway, IsIdentity, IsRelay, IsShape, identity_wire, of_shape, relay_flag}
 use Rattle.dnw_zone_data.specs.NameLists.{AreNameWords}
+use Rattle.dnw_zone_data.specs.StringLists.{AreStringWords}
+use Rattle.dnw_zone_data.specs.Bitmaps.{with_numbers, AreBits, AreBitWords, IsBitWord}
 use Rattle.dnw_zone_data.specs.TypeLists.{AreTypeWords}
 use Rattle.dnw_zone_data.specs.Words.{after_spaces, after_word, second_word_on, without_spaces, word}
 use Rattle.dnw_zone_data.specs.DataTexts.{IsPlainData, IsTextOf, text_kinds}
 use Rattle.dnw_zone_data.specs.Generic.{IsGeneric}
 use Rattle.dnw_zone_data.specs.DataTextLaws.{DataAreUnambiguous, PrintedDataAreSame}
-use Rattle.dnw_zone_data.specs.Parsing.{extent_of, AreAll, AreThree, AreFieldTexts, AreStringWords, IsIdentifierField, IsNumber, IsWord, ReadsBy, ReadsField, SpellsShown, eui48, eui64}
+use Rattle.dnw_zone_data.specs.Parsing.{extent_of, AreAll, AreThree, AreFieldTexts, IsIdentifierField, IsNumber, IsWord, ReadsBy, ReadsField, SpellsShown, eui48, eui64}
 use Rattle.dnw_zone_data.proofs.DataBack.{back, data_fit}
 use Rattle.dnw_zone_data.proofs.GenericText.{one_generic}
 use Rattle.dnw_zone_data.proofs.OneBitmap.{back_fit, front_fit, one_bitmap}
@@ -100,6 +102,7 @@ one_in_form Period max text m n x y = same_Some m n (sym x.0.0 ∙ y.0.0)
 one_in_form Algorithm max text m n x y = one_or_name algorithm_named max text m n x y
 one_in_form CertificateType max text m n x y = one_or_name certificate_type_named max text m n x y
 one_in_form Scheme max text m n x y = one_or_name scheme_named max text m n x y
+one_in_form Protocol max text m n x y = one_or_name protocol_named max text m n x y
 
 one_number : (way : NumberForm) (max : ℕ) (field : ℕ → FieldValue) (text : List ℕ) (v w : FieldValue) → IsNumber way max field text v → IsNumber way max field text w → v ≡ w
 one_number way max field text v w x y = x.3 ∙ ap field (one_in_form way max text x.0 y.0 x.2 y.2) ∙ sym y.3
@@ -153,6 +156,21 @@ one_names origin left (s ∷ a) [] x y = absurd (x.0 y)
 one_names origin left (s ∷ a) (t ∷ b) x y =
     ap (λ (labels : List (List ℕ)). labels ∷ a) (same_Some s t (sym x.1 ∙ y.1)) ∙ ap (λ (rest : List (List (List ℕ))). t ∷ rest) (one_names origin (after_word (after_spaces left)) a b x.2 y.2)
 
+one_bit : (shown : Shown) (text : List ℕ) (m n : ℕ) → IsBitWord shown text m → IsBitWord shown text n → m ≡ n
+one_bit Ports text m n x y = one_or_name service_named 65535 text m n x.1 y.1
+one_bit OldTypes text m n (a, x, e, _, _) (b, y, f, _, _) = e ∙ ap code_of (same_Some a b (sym x.1 ∙ y.1)) ∙ sym f
+one_bit shown text m n x y = absurd x
+
+one_bit_words : (shown : Shown) (left a b : List ℕ) → AreBitWords shown left a → AreBitWords shown left b → a ≡ b
+one_bit_words shown left [] [] x y = refl
+one_bit_words shown left [] (n ∷ b) x y = absurd (y.0 x)
+one_bit_words shown left (m ∷ a) [] x y = absurd (x.0 y)
+one_bit_words shown left (m ∷ a) (n ∷ b) x y =
+    ap (λ (k : ℕ). k ∷ a) (one_bit shown (word (after_spaces left)) m n x.1 y.1) ∙ ap (λ (rest : List ℕ). n ∷ rest) (one_bit_words shown (after_word (after_spaces left)) a b x.2 y.2)
+
+one_bits : (shown : Shown) (left a b : List ℕ) → AreBits shown left a → AreBits shown left b → a ≡ b
+one_bits shown left a b x y = x.2 ∙ ap (λ (ns : List ℕ). with_numbers ns []) (one_bit_words shown left x.0 y.0 x.1 y.1) ∙ sym y.2
+
 types_fit : (v : FieldValue) (own : List ℕ) → v ≡ types (items lists.Types own) → IsOctets (field_wire v) → IsOctets own
 types_fit v own e h = subst (λ (z : FieldValue). IsOctets (field_wire z)) e h
 
@@ -163,10 +181,12 @@ one_whole shape left v w x y = absurd x
 one_list : (origin : Option NameValue) (kind : Kind) (left : List ℕ) (v w : FieldValue) → IsOctets (field_wire v) → IsOctets (field_wire w) → AreAll origin kind left v → AreAll origin kind left w → v ≡ w
 one_list origin (kinds.Octets Hex) left v w hv hw x y = x.2 ∙ ap octets (one_hex (without_spaces left) x.0 y.0 x.1.1 y.1.1) ∙ sym y.2
 one_list origin (kinds.Octets Base64) left v w hv hw x y = x.2 ∙ ap octets (one_base64 (without_spaces left) x.0 y.0 x.1.1 y.1.1) ∙ sym y.2
+one_list origin (kinds.Octets Ports) left v w hv hw x y = x.2 ∙ ap octets (one_bits Ports left x.0 y.0 x.1 y.1) ∙ sym y.2
+one_list origin (kinds.Octets OldTypes) left v w hv hw x y = x.2 ∙ ap octets (one_bits OldTypes left x.0 y.0 x.1 y.1) ∙ sym y.2
 one_list origin (kinds.Octets shown) left v w hv hw x y = absurd x.1
 one_list origin (kinds.List lists.Texts) left v w hv hw x y =
     let same = one_strings left (x.0 ∷ x.1) (y.0 ∷ y.1) x.2 y.2 in
-    x.3 ∙ ap (λ (own : List (List ℕ)). texts (items lists.Texts (flat_map label_wire own))) same ∙ sym y.3
+    x.4 ∙ ap (λ (own : List (List ℕ)). texts (items lists.Texts (flat_map label_wire own))) same ∙ sym y.4
 one_list origin (kinds.List lists.Types) left v w hv hw (a, own, words, are, e) (b, other, others, also, f) =
     let same = one_types left a b words others in
     e ∙ ap (λ (xs : List ℕ). types (items lists.Types xs)) (one_bitmap b own other (types_fit v own e hv) (types_fit w other f hw) (rw same at are) also) ∙ sym f

@@ -16,6 +16,8 @@ use Rattle.dnw_base.specs.RecordTypes.{registered_type, type_of_text}
 use Rattle.dnw_zone_values.specs.Inside.Steps.{IsSpaced}
 use Rattle.dnw_zone_data.specs.Words.{after_spaces, word, after_word}
 use Rattle.dnw_zone_data.specs.TypeLists.{is_window, codes_within, code_text, codes_text, PrintsTypes, IsTypeWord, AreTypeWords}
+use Rattle.dnw_data.specs.declared.kind.Shown.{Shown}
+use Rattle.dnw_zone_data.specs.Bitmaps.{number_text, numbers_text}
 use Rattle.dnw_zone_data.specs.Appending.{AppendedInPart}
 use Rattle.dnw_zone_data.specs.Inside.TypeWords.{LeadToTypes}
 
@@ -39,6 +41,9 @@ after_all found own (Some others) = ap Some (sym (append_assoc found own others)
 
 pub codes_append : (a b : List ℕ) → codes_text (a ++ b) ≡ codes_text a ++ codes_text b
 codes_append a b = flat_map-append code_text a b
+
+pub numbers_append : (shown : Shown) (a b : List ℕ) → numbers_text shown (a ++ b) ≡ numbers_text shown a ++ numbers_text shown b
+numbers_append shown a b = flat_map-append (number_text shown) a b
 
 -- ---- words
 
@@ -71,15 +76,15 @@ word_some (c ∷ w) record_type is = omega arith
 -- ---- windows
 
 -- one bit more
-pub bit_more : (old mid whole : List ℕ) (first octet bit : ℕ) → bit < 8 → mid ≡ old ++ codes_text (bit_codes first octet bit)
-    → old ++ codes_text (flat_map (bit_codes first octet) (drop bit bits)) ≡ whole
-    → mid ++ codes_text (flat_map (bit_codes first octet) (drop (bit + 1) bits)) ≡ whole
-bit_more old mid whole first octet bit within e so_far =
+pub bit_more : (shown : Shown) (old mid whole : List ℕ) (first octet bit : ℕ) → bit < 8 → mid ≡ old ++ numbers_text shown (bit_codes first octet bit)
+    → old ++ numbers_text shown (flat_map (bit_codes first octet) (drop bit bits)) ≡ whole
+    → mid ++ numbers_text shown (flat_map (bit_codes first octet) (drop (bit + 1) bits)) ≡ whole
+bit_more shown old mid whole first octet bit within e so_far =
     let own = bit_codes first octet bit in
     let others = flat_map (bit_codes first octet) (drop (bit + 1) bits) in
-    ap (λ (xs : List ℕ). xs ++ codes_text others) e ∙ append_assoc old (codes_text own) (codes_text others)
-    ∙ ap (λ (xs : List ℕ). old ++ xs) (sym (codes_append own others))
-    ∙ ap (λ (xs : List ℕ). old ++ codes_text (flat_map (bit_codes first octet) xs)) (sym (bits_next bit within)) ∙ so_far
+    ap (λ (xs : List ℕ). xs ++ numbers_text shown others) e ∙ append_assoc old (numbers_text shown own) (numbers_text shown others)
+    ∙ ap (λ (xs : List ℕ). old ++ xs) (sym (numbers_append shown own others))
+    ∙ ap (λ (xs : List ℕ). old ++ numbers_text shown (flat_map (bit_codes first octet) xs)) (sym (bits_next bit within)) ∙ so_far
 
 -- a window, if there is one
 window : (n number len : ℕ) (left rest more own others : List ℕ) → left ≡ number ∷ rest → rest ≡ len ∷ more → more ≡ own ++ others → length own ≡ len → is_window own ≡ true

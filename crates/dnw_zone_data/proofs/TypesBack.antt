@@ -144,7 +144,7 @@ from_start : (text : List ℕ) (kinds : List RecordType) → AreTypeWords text k
 from_start text [] h = starts_twice text ∙ h
 from_start text (kind ∷ kinds) h = rw (starts_twice text) h
 
-no_type : (record_type : RecordType) → IsTypeWord generic_mark record_type → ⊥
+pub no_type : (record_type : RecordType) → IsTypeWord generic_mark record_type → ⊥
 unfolding type_of_text registered_type
 no_type record_type is = let no : None ≡ Some record_type = is.1 in cc
 

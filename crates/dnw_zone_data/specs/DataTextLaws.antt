@@ -14,7 +14,7 @@ use Rattle.dnw_data.specs.declared.kind.Kind.TheVariants.{U8, U16, U32, U48, U64
 use Rattle.dnw_data.specs.declared.kind.Kind.TheVariants as kinds
 use Rattle.dnw_data.specs.declared.kind.ListKind.TheVariants as lists
 use Rattle.dnw_data.specs.declared.kind.Shape.{Shape}
-use Rattle.dnw_data.specs.declared.kind.Shown.TheVariants.{Text, Tag, Hex, Base32Hex, Base64, Nsap}
+use Rattle.dnw_data.specs.declared.kind.Shown.TheVariants.{Text, Tag, Hex, Base32Hex, Base64, Nsap, Ports, OldTypes}
 use Rattle.dnw_data.specs.Lists.{list_fault}
 use Rattle.dnw_data.specs.Table.{fields_of}
 use Rattle.dnw_data.specs.Values.{FieldValue, name, u8, u16, u32, u48, u64, ipv4, ipv6, type_code, time, counted, octets, texts, types, params, prefixes, names, items}
@@ -119,9 +119,15 @@ FieldLocatorsComeBack =
 abbrev pub FieldPrefixesComeBack : Type 0
 FieldPrefixesComeBack = (own : List ℕ) → IsOctets own → FieldComesBack (kinds.List lists.Prefixes) (prefixes (items lists.Prefixes own))
 
--- Strings up to the end round-trip, one or more.
+-- Bitmaps of ports, and of types without windows, round-trip, if they have a text.
+abbrev pub FieldBitmapsComeBack : Type 0
+FieldBitmapsComeBack =
+    ((own : List ℕ) → IsOctets own → FieldComesBack (Octets Ports) (octets own))
+    × ((own : List ℕ) → IsOctets own → FieldComesBack (Octets OldTypes) (octets own))
+
+-- Strings up to the end round-trip, one or more, with no more octets than data may have.
 abbrev pub StringsComeBack : Type 0
-StringsComeBack = (own : List ℕ) → IsOctets own → 1 ≤ length own → FieldComesBack (kinds.List lists.Texts) (texts (items lists.Texts own))
+StringsComeBack = (own : List ℕ) → IsOctets own → 1 ≤ length own → length own ≤ max_data → FieldComesBack (kinds.List lists.Texts) (texts (items lists.Texts own))
 
 -- Gateways, relays and host identities round-trip, if they have a text.
 abbrev pub ShapesComeBack : Type 0

@@ -9,7 +9,7 @@ use Rattle.dnw_data.specs.declared.kind.Kind.{Kind}
 use Rattle.dnw_data.specs.declared.kind.Kind.TheVariants.{LongTime, ChaosAddress, LongCounted, Shaped, Octets}
 use Rattle.dnw_data.specs.declared.kind.Kind.TheVariants as kinds
 use Rattle.dnw_data.specs.declared.kind.Shape.TheVariants.{AddressSuffix}
-use Rattle.dnw_data.specs.declared.kind.Shown.TheVariants.{Hex, MaybeBase64, Ports, OldTypes}
+use Rattle.dnw_data.specs.declared.kind.Shown.TheVariants.{Hex, MaybeBase64}
 use Rattle.std.specs.List.{list_all, list_any}
 use Rattle.dnw_data.specs.Values.{FieldValue}
 use Rattle.dnw_data.specs.Fields.{TakesField, FailsField}
@@ -34,8 +34,6 @@ has_field_text ChaosAddress = false
 has_field_text (LongCounted shown) = false
 has_field_text (Shaped AddressSuffix) = false
 has_field_text (Octets MaybeBase64) = false
-has_field_text (Octets Ports) = false
-has_field_text (Octets OldTypes) = false
 has_field_text kind = true
 
 -- data of these kinds are octets alone

@@ -11,7 +11,7 @@ use Rattle.dnw_zone_data.specs.declared.error.DataTextError.TheVariants.{Wanted 
 use Rattle.dnw_zone_data.specs.declared.error.Wanted.{Wanted}
 use Rattle.dnw_zone_data.specs.declared.error.Wanted.TheVariants as wanted
 use Rattle.dnw_zone_data.specs.declared.number_form.NumberForm.{NumberForm}
-use Rattle.dnw_zone_data.specs.declared.number_form.NumberForm.TheVariants.{Decimal, Period, Algorithm, CertificateType, Scheme}
+use Rattle.dnw_zone_data.specs.declared.number_form.NumberForm.TheVariants.{Decimal, Period, Algorithm, CertificateType, Scheme, Protocol}
 
 -- what is wanted of a number in a form, if this is wanted of one in decimal
 abbrev pub number_wanted : NumberForm → Wanted → Wanted
@@ -20,6 +20,7 @@ number_wanted Period decimal = wanted.Period
 number_wanted Algorithm decimal = wanted.Algorithm
 number_wanted CertificateType decimal = wanted.CertificateType
 number_wanted Scheme decimal = wanted.Scheme
+number_wanted Protocol decimal = wanted.Protocol
 
 -- what is wanted of octets up to the end
 abbrev pub octets_wanted : Shown → Wanted
@@ -27,6 +28,8 @@ octets_wanted shown.Text = wanted.Text
 octets_wanted shown.Hex = wanted.Hexadecimal
 octets_wanted shown.Base64 = wanted.Base64
 octets_wanted shown.Nsap = wanted.Nsap
+octets_wanted shown.Ports = wanted.Ports
+octets_wanted shown.OldTypes = wanted.OldTypes
 octets_wanted form = wanted.Generic
 
 -- what is wanted of a field of a kind, whose number is in a form

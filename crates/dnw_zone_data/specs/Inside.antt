@@ -8,3 +8,4 @@ pub mod NameWords
 pub mod Wires
 pub mod WordParts
 pub mod PrefixWords
+pub mod BitWords

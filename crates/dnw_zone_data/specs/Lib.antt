@@ -3,9 +3,11 @@ pub mod NumberForms
 pub mod NameReading
 pub mod Appending
 pub mod TypeLists
+pub mod Bitmaps
 pub mod PrefixLists
 pub mod Locators
 pub mod ParamLists
+pub mod StringLists
 pub mod Faults
 pub mod Generic
 pub mod Locations

@@ -3,10 +3,10 @@ use Rattle.std.specs.Prelude.{◌≡◌, ◌≤◌, ℕ, ◌==◌, ◌&&◌, ◌
 use Rattle.std.specs.Char.{is_ascii_digit}
 use Rattle.std.specs.List.{list_all, list_any}
 use Rattle.dnw_zone_lexer.specs.Times.{max_ttl, time_seconds}
-use Rattle.dnw_zone_values.specs.Mnemonics.{IsNumberOrName, algorithm_named, certificate_type_named, scheme_named}
+use Rattle.dnw_zone_values.specs.Mnemonics.{IsNumberOrName, algorithm_named, certificate_type_named, protocol_named, scheme_named}
 use Rattle.dnw_zone_values.specs.Numbers.{IsNumberText}
 use Rattle.dnw_zone_data.specs.declared.number_form.NumberForm.{NumberForm}
-use Rattle.dnw_zone_data.specs.declared.number_form.NumberForm.TheVariants.{Decimal, Period, Algorithm, CertificateType, Scheme}
+use Rattle.dnw_zone_data.specs.declared.number_form.NumberForm.TheVariants.{Decimal, Period, Algorithm, CertificateType, Scheme, Protocol}
 
 -- types whose second field is the number of an algorithm: SIG, DS, RRSIG, CDS, TA and DLV
 abbrev pub with_algorithm_second : List ℕ
@@ -20,10 +20,12 @@ abbrev pub is_one_of : List ℕ → ℕ → Bool
 is_one_of codes code = list_any (λ known. known == code) codes
 
 -- The forms of the first fields of data of a type. The times of SOA (RFC 1035, section 3.3.13) take units; CERT has a type of
--- certificates and an algorithm (RFC 4398, section 2), and DSYNC a scheme (RFC 9859, section 2.1). Numbers of other fields are in decimal.
+-- certificates and an algorithm (RFC 4398, section 2), DSYNC a scheme (RFC 9859, section 2.1), and WKS a protocol (RFC 1035, section
+-- 3.4.2). Numbers of other fields are in decimal.
 unfoldable pub number_forms : ℕ → List NumberForm
 number_forms code =
     if code == 6 then Decimal ∷ Decimal ∷ Decimal ∷ Period ∷ Period ∷ Period ∷ Period ∷ []
+    else if code == 11 then Decimal ∷ Protocol ∷ []
     else if code == 37 then CertificateType ∷ Decimal ∷ Algorithm ∷ []
     else if code == 66 then Decimal ∷ Scheme ∷ []
     else if is_one_of with_algorithm_second code then Decimal ∷ Algorithm ∷ []
@@ -59,3 +61,4 @@ IsNumberIn Period max text n = IsPeriod text n × (n ≤ max)
 IsNumberIn Algorithm max text n = IsNumberOrName algorithm_named max text n
 IsNumberIn CertificateType max text n = IsNumberOrName certificate_type_named max text n
 IsNumberIn Scheme max text n = IsNumberOrName scheme_named max text n
+IsNumberIn Protocol max text n = IsNumberOrName protocol_named max text n

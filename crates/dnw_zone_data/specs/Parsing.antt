@@ -23,6 +23,7 @@ use Rattle.dnw_zone_values.specs.Base32.{IsHashText}
 use Rattle.dnw_zone_values.specs.Pairs.{IsPairsText}
 use Rattle.dnw_zone_values.specs.Times.{IsTimeText}
 use Rattle.dnw_zone_data.specs.declared.error.DataTextError.{DataTextError}
+use Rattle.dnw_zone_data.specs.declared.error.Wanted.{Wanted}
 use Rattle.dnw_zone_data.specs.declared.error.Wanted.TheVariants.{End}
 use Rattle.dnw_zone_data.specs.declared.extent.Extent.{Extent}
 use Rattle.dnw_zone_data.specs.declared.extent.Extent.TheVariants.{One, Three, All}
@@ -35,8 +36,10 @@ use Rattle.dnw_zone_data.specs.Gateways.{AreShape, IsShape}
 use Rattle.dnw_zone_data.specs.Locators.{IsLocatorField, IsNodeNumber, IsNsapField}
 use Rattle.dnw_zone_data.specs.NameLists.{AreListedNames}
 use Rattle.dnw_zone_data.specs.PrefixLists.{ArePrefixes}
+use Rattle.dnw_zone_data.specs.Bitmaps.{AreBits}
 use Rattle.dnw_zone_data.specs.TypeLists.{AreTypes, IsTypeField}
-use Rattle.dnw_zone_data.specs.ParamLists.{AreParams}
+use Rattle.dnw_zone_data.specs.ParamLists.{AreParams, IsParamsWanted}
+use Rattle.dnw_zone_data.specs.StringLists.{AreTexts, IsTextsWanted}
 
 -- ---- the fields of words
 
@@ -99,27 +102,16 @@ IsWord origin way (kinds.Counted shown) text value = AreOctetsOf (SpellsShown sh
 IsWord origin way (kinds.Octets shown) text value = IsOctetsOf shown text value
 IsWord origin way kind text value = IsNumberOf way kind text value
 
--- the words of a text are these strings
-abbrev pub AreStringWords : List ℕ → List (List ℕ) → Type 0
-AreStringWords left [] = after_spaces left ≡ []
-AreStringWords left (string ∷ strings) =
-    (after_spaces left ≢ []) × IsStringText (word (after_spaces left)) string
-    × AreStringWords (after_word (after_spaces left)) strings
-
--- one string or more
-abbrev pub AreTexts : List ℕ → FieldValue → Type 0
-AreTexts left value =
-    (first : List ℕ) × (others : List (List ℕ)) × AreStringWords left (first ∷ others)
-    × (value ≡ texts (items lists.Texts (flat_map label_wire (first ∷ others))))
-
 -- a text writes octets up to the end
 abbrev pub SpellsOctets : Shown → List ℕ → List ℕ → Type 0
 SpellsOctets Hex text own = IsUtf8 text × IsHexText text own
 SpellsOctets Base64 text own = IsUtf8 text × IsBase64Text text own
 SpellsOctets shown text own = ⊥
 
--- all words write octets as one
+-- all words write octets as one, or are the numbers of a bitmap
 abbrev pub AllSpell : Shown → List ℕ → List ℕ → Type 0
+AllSpell Ports left own = AreBits Ports left own
+AllSpell OldTypes left own = AreBits OldTypes left own
 AllSpell shown left own = SpellsOctets shown (without_spaces left) own
 
 -- all words are the items of a list
@@ -182,11 +174,18 @@ AreFieldTexts origin ways (kind ∷ kinds) left (value ∷ values) =
     (rest : List ℕ) × ReadsField origin (first_form ways) kind (after_spaces left) value rest × AreFieldTexts origin (other_forms ways) kinds rest values
 AreFieldTexts origin ways kinds left values = ⊥
 
+-- what is wanted of a field of a kind with its number in a form, in place of a text that is none
+abbrev pub IsWanted : NumberForm → Kind → List ℕ → Wanted → Type 0
+IsWanted way (kinds.List lists.Params) left wanted = IsParamsWanted left wanted
+IsWanted way (kinds.List lists.Texts) left wanted = IsTextsWanted left wanted
+IsWanted way kind left wanted = wanted ≡ wanted_of way kind
+
 -- The text goes wrong at a field, or goes on after the last: of so many fields, in a text of this length.
 abbrev pub FailsFields : Option NameValue → ℕ → ℕ → List NumberForm → List Kind → List ℕ → DataTextError → Type 0
 FailsFields origin count len ways [] left e = (after_spaces left ≢ []) × (e ≡ fault count (len - length (after_spaces left)) End)
 FailsFields origin count len ways (kind ∷ kinds) left e =
     (((value : FieldValue) (rest : List ℕ) → ¬ (ReadsField origin (first_form ways) kind (after_spaces left) value rest))
-    × (e ≡ fault (count - length (kind ∷ kinds)) (len - length (after_spaces left)) (wanted_of (first_form ways) kind)))
+    × (wanted : Wanted) × IsWanted (first_form ways) kind (after_spaces left) wanted
+    × (e ≡ fault (count - length (kind ∷ kinds)) (len - length (after_spaces left)) wanted))
     ⊎ ((value : FieldValue) × (rest : List ℕ) × ReadsField origin (first_form ways) kind (after_spaces left) value rest
     × FailsFields origin count len (other_forms ways) kinds rest e)

@@ -8,7 +8,7 @@ use Rattle.dnw_base.specs.Names.{label_wire}
 use Rattle.dnw_base.specs.RecordTypes.{type_text}
 use Rattle.dnw_data.specs.declared.kind.Kind.{Kind}
 use Rattle.dnw_data.specs.declared.kind.Kind.TheVariants.{Counted, Octets, U16, U48, U64, Locator, NodeNumber}
-use Rattle.dnw_data.specs.declared.kind.Shown.TheVariants.{Text, Tag, Hex, Base32Hex, Base64, Nsap}
+use Rattle.dnw_data.specs.declared.kind.Shown.TheVariants.{Text, Tag, Hex, Base32Hex, Base64, Nsap, Ports, OldTypes}
 use Rattle.dnw_data.specs.Values.{FieldValue, name, u8, u16, u32, u48, u64, ipv4, ipv6, type_code, time, counted, octets, texts, types, params}
 use Rattle.dnw_data.specs.Values.{prefixes, names, long_counted, shaped}
 use Rattle.dnw_data.specs.Fields.{TakesField, FailsField}
@@ -26,6 +26,7 @@ use Rattle.dnw_zone_data.specs.Gateways.{PrintsShaped}
 use Rattle.dnw_zone_data.specs.Locators.{PrintsLocator, PrintsNsap}
 use Rattle.dnw_zone_data.specs.NameLists.{PrintsNames}
 use Rattle.dnw_zone_data.specs.PrefixLists.{PrintsPrefixes}
+use Rattle.dnw_zone_data.specs.Bitmaps.{PrintsBits}
 use Rattle.dnw_zone_data.specs.Generic.{hex_part}
 
 -- nothing for no octets
@@ -67,6 +68,8 @@ PrintsOctets (Octets Hex) own text = text ≡ hex_part own
 PrintsOctets (Octets Base64) own text = text ≡ base64_part own
 PrintsOctets (Octets Text) own text = text ≡ 32 ∷ string_text own
 PrintsOctets (Octets Nsap) own text = PrintsNsap own text
+PrintsOctets (Octets Ports) own text = PrintsBits Ports own text
+PrintsOctets (Octets OldTypes) own text = PrintsBits OldTypes own text
 PrintsOctets kind own text = ⊥
 
 -- character strings, each after a space

@@ -357,7 +357,7 @@ fn has_field_text(kind: Kind) -> bool
             | Kind::ChaosAddress
             | Kind::LongCounted(_)
             | Kind::Shaped(Shape::AddressSuffix)
-            | Kind::Octets(Shown::MaybeBase64 | Shown::Ports | Shown::OldTypes)
+            | Kind::Octets(Shown::MaybeBase64)
     )
 }
 

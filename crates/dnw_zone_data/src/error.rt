@@ -34,6 +34,9 @@ pub enum Wanted {
     /// A scheme of DSYNC by its number or its mnemonic: `NOTIFY`.
     #[error("a scheme by its number or mnemonic")]
     Scheme,
+    /// A protocol by its number or its name: `TCP`.
+    #[error("a protocol by its number or name")]
+    Protocol,
     /// A time: 14 digits as YYYYMMDDHHmmSS, or a number of seconds.
     #[error("YYYYMMDDHHmmSS or a number of seconds")]
     Time,
@@ -82,6 +85,9 @@ pub enum Wanted {
     /// Service parameters up to the end, none of them twice.
     #[error("service parameters, each key once")]
     Params,
+    /// Service parameters of which `mandatory` lists keys of the others.
+    #[error("`mandatory` to list keys of other parameters that are there")]
+    Mandatory,
     /// Names up to the end.
     #[error("names")]
     Names,
@@ -109,6 +115,12 @@ pub enum Wanted {
     /// Address prefixes up to the end.
     #[error("address prefixes, each as 1:192.0.2.0/24")]
     Prefixes,
+    /// Ports up to the end.
+    #[error("ports or names of services")]
+    Ports,
+    /// Record types of codes of 1 to 127 up to the end.
+    #[error("record types of codes of 1 to 127")]
+    OldTypes,
     /// The form that any data have, which begins with `\#`: the type has no other.
     #[error("the form of any data, which begins with \\#")]
     Generic,
@@ -121,6 +133,9 @@ pub enum Wanted {
     /// Octets that are data of the type, without compression pointers.
     #[error("octets that are data of the type")]
     Data,
+    /// No more octets than data may have.
+    #[error("data of at most 65535 octets")]
+    FewerOctets,
     /// Nothing more.
     #[error("the end of the data")]
     End,
@@ -200,6 +215,7 @@ fn number_wanted(form: NumberForm, decimal: Wanted) -> Wanted
         NumberForm::Algorithm => Wanted::Algorithm,
         NumberForm::CertificateType => Wanted::CertificateType,
         NumberForm::Scheme => Wanted::Scheme,
+        NumberForm::Protocol => Wanted::Protocol,
     }
 }
 
@@ -212,6 +228,8 @@ fn octets_wanted(shown: Shown) -> Wanted
         Shown::Hex => Wanted::Hexadecimal,
         Shown::Base64 => Wanted::Base64,
         Shown::Nsap => Wanted::Nsap,
+        Shown::Ports => Wanted::Ports,
+        Shown::OldTypes => Wanted::OldTypes,
         _ => Wanted::Generic,
     }
 }

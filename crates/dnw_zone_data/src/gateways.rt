@@ -1,5 +1,5 @@
 //! Gateways, relays and host identities (RFC 4025, RFC 8777, RFC 8005).
-ghost use Rattle.std.specs.Prelude.{◌≡◌, ◌≤◌, ◌++◌, ◌∷◌, ℕ, List, [], length, IfOk, MatchBool, MatchOption, string_bytes};
+ghost use Rattle.std.specs.Prelude.{◌≡◌, ◌≤◌, ◌+◌, ◌*◌, ◌%◌, ◌++◌, ◌∷◌, ℕ, List, [], decimal, length, IfOk, MatchBool, MatchOption, string_bytes};
 ghost use Rattle.std.specs.Net.Addr.{octets_of, ipv4_octets, ipv6_segments, segments_of};
 ghost use Rattle.std.specs.Net.Grammar.{IsIpv4Text, IsIpv6Text};
 ghost use Rattle.std.specs.Net.Text.{ipv4_text, ipv6_text};
@@ -12,7 +12,7 @@ ghost use Rattle.dnw_name_text.specs.NameTexts.{full_name_text};
 ghost use Rattle.dnw_zone_values.specs.Inside.Steps.{PushesOne};
 ghost use Rattle.dnw_zone_values.specs.Numbers.{max_u8, IsNumberText};
 ghost use Rattle.dnw_zone_data.specs.Appending.{Appended, AppendsOne};
-ghost use Rattle.dnw_zone_data.specs.Gateways.{identity_wire, AreShape, AreTagAndKey, IsGatewayEnd, IsGateway, IsIdentity, IsRelay, IsShape, PrintsEnd, PrintsGateway, PrintsIdentity, PrintsRelay, PrintsShaped};
+ghost use Rattle.dnw_zone_data.specs.Gateways.{identity_wire, relay_flag, three_words, AreShape, AreTagAndKey, IsGatewayEnd, IsGateway, IsIdentity, IsRelay, IsShape, PrintsEnd, PrintsGateway, PrintsIdentity, PrintsRelay, PrintsShaped};
 ghost use Rattle.dnw_zone_data.specs.Parsing.{SpellsOctets};
 
 use crate::location::{parse_location, write_location};
@@ -82,9 +82,15 @@ fn parse_gateway(
     let Some(algorithm) = octet_of(second) else {
         return Ok(false);
     };
-    out.push(gateway_type)?;
-    out.push(algorithm)?;
+    out.extend_from_slice(&gateway_head(gateway_type, algorithm))?;
     push_end(alloc, gateway_type, third, origin, out)
+}
+
+/// Returns the octets before a gateway.
+fn gateway_head(gateway_type: u8, algorithm: u8) -> [u8; 2]
+    ensures { result ≡ gateway_type ∷ algorithm ∷ [] }
+{
+    [gateway_type, algorithm]
 }
 
 /// Appends the octets of a relay. Returns `false` if the words are none.
@@ -107,8 +113,17 @@ fn parse_relay(
     if 3 < relay_type {
         return Ok(false);
     }
-    out.push(RELAY_FLAG * flag as u8 + relay_type)?;
+    out.push(relay_head(flag as u8, relay_type))?;
     push_end(alloc, relay_type, third, origin, out)
+}
+
+/// Returns the octet before a relay.
+fn relay_head(flag: u8, relay_type: u8) -> u8
+    requires once { flag ≤ 1 }
+    requires few { relay_type ≤ 127 }
+    ensures { result ≡ relay_flag * flag + relay_type }
+{
+    RELAY_FLAG * flag + relay_type
 }
 
 /// Returns the number of one octet that a word is in decimal.
@@ -246,8 +261,21 @@ fn write_gateway(alloc: Global, octets: &[u8], out: &mut String) -> Result<bool,
     let Some(shown) = end_text(alloc, *gateway_type, gateway)? else {
         return Ok(false);
     };
-    write!(out, " {gateway_type} {algorithm} {shown}")?;
+    push_gateway(*gateway_type, *algorithm, shown.as_str(), out)?;
     Ok(true)
+}
+
+/// Appends the text of a gateway.
+fn push_gateway(
+    gateway_type: u8,
+    algorithm: u8,
+    shown: &str,
+    out: &mut String,
+) -> Result<(), AllocError>
+    ensures { IfOk result (λ _. string_bytes out.new ≡ string_bytes out.old ++ three_words (decimal gateway_type) (decimal algorithm) shown.now) }
+{
+    write!(out, " {gateway_type} {algorithm} {shown}")?;
+    Ok(())
 }
 
 /// Appends the text of a relay. Returns `false` if it has none.
@@ -258,12 +286,19 @@ fn write_relay(alloc: Global, octets: &[u8], out: &mut String) -> Result<bool, A
         return Ok(false);
     };
     let flag = *head / RELAY_FLAG;
-    let relay_type = *head % RELAY_FLAG;
+    let relay_type = relay_type_of(*head);
     let Some(shown) = end_text(alloc, relay_type, relay)? else {
         return Ok(false);
     };
     write!(out, " {flag} {relay_type} {shown}")?;
     Ok(true)
+}
+
+/// Returns the type of a relay by the octet before it.
+fn relay_type_of(head: u8) -> u8
+    ensures { result ≡ head % relay_flag }
+{
+    head % RELAY_FLAG
 }
 
 /// Appends the text of a host identity. Returns `false` if it has no tag or no key.

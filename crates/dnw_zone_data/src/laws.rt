@@ -1,7 +1,7 @@
 //! What is printed of data and of their fields is parsed as the same.
 //!
 //! The functions do nothing. Each is there for its clauses.
-ghost use Rattle.dnw_zone_data.specs.DataTextLaws.{GenericComesBack, GenericIsParsed, DataComeBack, TextsAreParsed, NumbersComeBack, TypesComeBack, FieldAddressesComeBack, FieldNamesComeBack, SegmentsComeBack, FieldIdentifiersComeBack, CountedComeBack, OctetsComeBack, StringsComeBack, ListsComeBack, FieldLocatorsComeBack, FieldPrefixesComeBack, ShapesComeBack, NameListsComeBack};
+ghost use Rattle.dnw_zone_data.specs.DataTextLaws.{GenericComesBack, GenericIsParsed, DataComeBack, TextsAreParsed, NumbersComeBack, TypesComeBack, FieldAddressesComeBack, FieldNamesComeBack, SegmentsComeBack, FieldIdentifiersComeBack, CountedComeBack, OctetsComeBack, StringsComeBack, ListsComeBack, FieldLocatorsComeBack, FieldPrefixesComeBack, FieldBitmapsComeBack, ShapesComeBack, NameListsComeBack};
 
 /// Fields of these kinds round-trip, whatever follows them.
 pub fn fields_come_back()
@@ -17,6 +17,7 @@ pub fn fields_come_back()
     ensures lists { ListsComeBack }
     ensures locators { FieldLocatorsComeBack }
     ensures prefixes { FieldPrefixesComeBack }
+    ensures bitmaps { FieldBitmapsComeBack }
     ensures shapes { ShapesComeBack }
     ensures names_in_lists { NameListsComeBack }
 {}

@@ -6,6 +6,7 @@
 //! text of each kind of field.
 #![tactic(auto)]
 
+mod bitmaps;
 pub mod data_text;
 pub mod error;
 pub mod extent;
@@ -22,5 +23,6 @@ mod parsing;
 mod prefixes;
 mod printing;
 mod spelling;
+pub mod string_lists;
 pub mod types;
 pub mod words;

@@ -1,12 +1,12 @@
 //! Words of a text that are a location (RFC 1876, section 3).
-ghost use Rattle.std.specs.Prelude.{◌≡◌, ◌<◌, ℕ, List, length, map, IfOk, MatchOption, string_bytes};
-ghost use Rattle.dnw_zone_values.specs.Locations.{PrintsLocation};
+ghost use Rattle.std.specs.Prelude.{◌≡◌, ◌<◌, ◌++◌, ℕ, List, length, map, IfOk, MatchOption, string_bytes};
+ghost use Rattle.dnw_zone_values.specs.Locations.{location_wire, PrintsLocation};
 ghost use Rattle.dnw_zone_data.specs.Appending.{Appended, AppendsOne};
 ghost use Rattle.dnw_zone_data.specs.Locations.{AreLocation, AreWords};
 
 use crate::words::{after_spaces, split_word};
 use arrayvec::ArrayVec;
-use dnw_zone_values::location::{append_location, location_octets, location_of};
+use dnw_zone_values::location::{Location, append_location, location_octets, location_of};
 use std::alloc::AllocError;
 
 /// The most words of a location: four of each angle, the altitude, and three sizes.
@@ -22,8 +22,15 @@ pub(crate) fn parse_location(left: &[u8], out: &mut Vec<u8>) -> Result<bool, All
     let Some(location) = location_of(words.as_slice()) else {
         return Ok(false);
     };
-    out.extend_from_slice(&location_octets(&location))?;
+    push_location(&location, out)?;
     Ok(true)
+}
+
+/// Appends the octets of a location.
+fn push_location(location: &Location, out: &mut Vec<u8>) -> Result<(), AllocError>
+    ensures { IfOk result (λ _. out.new.items ≡ out.old.items ++ location_wire location.now) }
+{
+    out.extend_from_slice(&location_octets(location))
 }
 
 /// Returns the words of a text, if there are no more than a location has.

@@ -9,7 +9,7 @@ ghost use Rattle.dnw_zone_data.specs.NumberForms.{ends_with_digit, first_form, i
 use dnw_base::record_type::RecordType;
 use dnw_zone_lexer::ttl::ttl_seconds;
 use dnw_zone_values::mnemonic::{
-    algorithm_named, begins_with_digit, certificate_type_named, scheme_named,
+    algorithm_named, begins_with_digit, certificate_type_named, protocol_named, scheme_named,
 };
 use dnw_zone_values::number::number_up_to;
 
@@ -26,6 +26,8 @@ pub enum NumberForm {
     CertificateType,
     /// As the number or the mnemonic of a scheme of DSYNC: `NOTIFY`.
     Scheme,
+    /// As the number or the name of a protocol: `TCP`.
+    Protocol,
 }
 
 /// The forms of the first fields of a SOA record.
@@ -49,6 +51,9 @@ const CERT: &[NumberForm] = &[
 /// The forms of the first fields of a DSYNC record.
 const DSYNC: &[NumberForm] = &[NumberForm::Decimal, NumberForm::Scheme];
 
+/// The forms of the first fields of a WKS record.
+const WKS: &[NumberForm] = &[NumberForm::Decimal, NumberForm::Protocol];
+
 /// The forms of the first fields of a DS record and of those like it.
 const SECOND: &[NumberForm] = &[NumberForm::Decimal, NumberForm::Algorithm];
 
@@ -66,6 +71,7 @@ pub(crate) fn number_forms(record_type: RecordType) -> &'static [NumberForm]
 {
     match u16::from(record_type) {
         6 => SOA,
+        11 => WKS,
         37 => CERT,
         66 => DSYNC,
         24 | 43 | 46 | 59 | 32768 | 32769 => SECOND,
@@ -119,6 +125,7 @@ fn number_in(form: NumberForm, text: &str, max: u32) -> Option<u32>
         NumberForm::Algorithm => algorithm_in(text, max),
         NumberForm::CertificateType => certificate_type_in(text, max),
         NumberForm::Scheme => scheme_in(text, max),
+        NumberForm::Protocol => protocol_in(text, max),
     }
 }
 
@@ -173,6 +180,18 @@ fn scheme_in(text: &str, max: u32) -> Option<u32>
         return decimal_in(text, max);
     }
     let number = u32::from(scheme_named(text)?);
+    if number <= max { Some(number) } else { None }
+}
+
+/// Returns the number up to `max` of a protocol.
+fn protocol_in(text: &str, max: u32) -> Option<u32>
+    ensures is { MatchOption result ((n : ℕ) → ¬ (IsNumberIn NumberForm.Protocol max text.now n)) (IsNumberIn NumberForm.Protocol max text.now) }
+    ensures few { IfSome result (λ n. n ≤ max) }
+{
+    if begins_with_digit(text) {
+        return decimal_in(text, max);
+    }
+    let number = u32::from(protocol_named(text)?);
     if number <= max { Some(number) } else { None }
 }
 

@@ -1,9 +1,10 @@
 //! Lists of service parameters (RFC 9460, section 2.1).
 ghost use Rattle.std.specs.Prelude.{◌≡◌, List, [], Some, IfOk, MatchOption, string_bytes};
 ghost use Rattle.dnw_zone_values.specs.Params.{ParamValue, in_key_order};
-ghost use Rattle.dnw_zone_data.specs.ParamLists.{AreParamWords, AreParams, PrintsParams};
+ghost use Rattle.dnw_zone_data.specs.ParamLists.{AreParamWords, AreParams, IsParamsWanted, PrintsParams};
 ghost use Rattle.dnw_zone_data.specs.Appending.{Appended, AppendsOne};
 
+use crate::error::Wanted;
 use crate::words::{after_spaces, split_param};
 use dnw_zone_values::mandatory::keeps_mandatory;
 use dnw_zone_values::param::{Param, push_params, sort_params};
@@ -41,6 +42,16 @@ pub(crate) fn write_param_list(
         return Ok(false);
     }
     write_params(alloc, octets, out)
+}
+
+/// Returns what is wanted in place of a text that is no field of parameters: that `mandatory` keeps its rule, if all else is as wanted.
+pub(crate) fn params_wanted(alloc: Global, text: &[u8]) -> Result<Wanted, AllocError>
+    ensures { IfOk result (IsParamsWanted text.now) }
+{
+    match params_of_words(alloc, text)? {
+        Some(_) => Ok(Wanted::Mandatory),
+        None => Ok(Wanted::Params),
+    }
 }
 
 /// Returns the parameters that all words are, in the order of their keys, or `None` if a word is none or a key is there twice.

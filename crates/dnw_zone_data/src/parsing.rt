@@ -4,11 +4,13 @@ ghost use Rattle.std.specs.Option.{option_copied, option_map};
 ghost use Rattle.dnw_data.specs.Values.{FieldValue, counted, octets};
 ghost use Rattle.dnw_zone_values.specs.Strings.{IsLongText};
 ghost use Rattle.dnw_zone_data.specs.declared.error.DataTextError.TheVariants.{Memory};
-ghost use Rattle.dnw_zone_data.specs.Parsing.{IsNameField, IsNumberOf, AreOctetsOf, IsOctetsOf, IsIdentifierField, eui48, eui64, SpellsShown, IsWord, AreTexts, AreList, AllSpell, AreAll, AreThree, ReadsBy, ReadsThree, ReadsField, AreFieldTexts, FailsFields};
+ghost use Rattle.dnw_zone_data.specs.Parsing.{IsNameField, IsNumberOf, AreOctetsOf, IsOctetsOf, IsIdentifierField, eui48, eui64, SpellsOctets, SpellsShown, IsWanted, IsWord, AreList, AllSpell, AreAll, AreThree, ReadsBy, ReadsThree, ReadsField, AreFieldTexts, FailsFields};
 ghost use Rattle.dnw_data.specs.FieldWires.{field_wire};
 ghost use Rattle.dnw_zone_data.specs.Inside.Reads.{AppendsRest, IsEndedBy};
 ghost use Rattle.dnw_zone_data.specs.Appending.{AppendsOne};
+ghost use Rattle.dnw_zone_data.specs.Words.{without_spaces};
 
+use crate::bitmaps::parse_bits;
 use crate::error::{DataTextError, Wanted, wanted_of};
 use crate::extent::{Extent, extent_of};
 use crate::gateways::{parse_shape, parse_whole};
@@ -16,9 +18,10 @@ use crate::locators::{parse_locator, parse_node_number, parse_nsap};
 use crate::name::append_name;
 use crate::name_lists::parse_names;
 use crate::number_form::{NumberForm, next_form, u8_in, u16_in, u32_in};
-use crate::params::parse_params;
+use crate::params::{params_wanted, parse_params};
 use crate::prefixes::parse_prefixes;
-use crate::spelling::{pairs_of, push_octets, push_spelled, push_string, push_text};
+use crate::spelling::{pairs_of, push_octets, push_spelled, push_text};
+use crate::string_lists::{parse_texts, texts_wanted};
 use crate::types::{parse_type, parse_types};
 use crate::words::{after_spaces, has_no_spaces, split_word, without_spaces};
 use dnw_data::kind::{Kind, ListKind, Shown};
@@ -69,7 +72,7 @@ pub(crate) fn parse_fields(
     };
     let (form, other_forms) = next_form(forms);
     let Some(rest) = parse_field(alloc, form, *kind, left, origin, out)? else {
-        let wanted = wanted_of(form, *kind);
+        let wanted = wanted_at(alloc, form, *kind, left)?;
         return Err(DataTextError::Wanted {
             field,
             offset,
@@ -77,6 +80,17 @@ pub(crate) fn parse_fields(
         });
     };
     parse_fields(alloc, place, other_forms, others, rest, origin, out)
+}
+
+/// Returns what is wanted of a field of a kind, whose number is in a form, in place of a text that is none.
+fn wanted_at(alloc: Global, form: NumberForm, kind: Kind, left: &[u8]) -> Result<Wanted, AllocError>
+    ensures { IfOk result (IsWanted form kind left.now) }
+{
+    match kind {
+        Kind::List(ListKind::Params) => params_wanted(alloc, left),
+        Kind::List(ListKind::Texts) => texts_wanted(alloc, left),
+        _ => Ok(wanted_of(form, kind)),
+    }
 }
 
 /// Appends the octets of the field that a text begins with, whose number is in a form. Returns what is after it, or `None` if it is none of this kind.
@@ -172,7 +186,7 @@ fn parse_all<'t>(
     ensures within { IfOk result (λ rest. IfSome rest (λ r. length r.now ≤ length left.now)) }
 {
     match kind {
-        Kind::Octets(shown) => Ok(ended(parse_joined(alloc, shown, left, out)?)),
+        Kind::Octets(shown) => Ok(ended(parse_all_octets(alloc, shown, left, out)?)),
         Kind::Shaped(shape) => Ok(ended(parse_whole(shape, left, out)?)),
         Kind::List(list) => Ok(ended(parse_list(alloc, list, left, origin, out)?)),
         _ => Ok(None),
@@ -186,6 +200,22 @@ fn ended<'t>(read: bool) -> Option<&'t [u8]>
     if read { Some(&[]) } else { None }
 }
 
+/// Appends the octets that all words write as one, or the bitmap of the numbers that they are. Returns `false` if they write none.
+fn parse_all_octets(
+    alloc: Global,
+    shown: Shown,
+    left: &[u8],
+    out: &mut Vec<u8>,
+) -> Result<bool, AllocError>
+    ensures { IfOk result (AppendsOne (λ value. (own : List ℕ) × AllSpell shown left.now own × (value ≡ octets own)) out.old.items out.new.items) }
+{
+    match shown {
+        Shown::Ports => parse_bits(alloc, Shown::Ports, left, out),
+        Shown::OldTypes => parse_bits(alloc, Shown::OldTypes, left, out),
+        _ => parse_joined(alloc, shown, left, out),
+    }
+}
+
 /// Appends the octets that all words write as one. Returns `false` if they write none.
 fn parse_joined(
     alloc: Global,
@@ -193,7 +223,7 @@ fn parse_joined(
     left: &[u8],
     out: &mut Vec<u8>,
 ) -> Result<bool, AllocError>
-    ensures { IfOk result (AppendsOne (λ value. (own : List ℕ) × AllSpell shown left.now own × (value ≡ octets own)) out.old.items out.new.items) }
+    ensures { IfOk result (AppendsOne (λ value. (own : List ℕ) × SpellsOctets shown (without_spaces left.now) own × (value ≡ octets own)) out.old.items out.new.items) }
 {
     if has_no_spaces(left) {
         return push_octets(shown, left, out);
@@ -213,33 +243,12 @@ fn parse_list(
     ensures { IfOk result (AppendsOne (AreList (option_copied origin.entry) list left.now) out.old.items out.new.items) }
 {
     match list {
-        ListKind::Texts => parse_texts(alloc, left, out),
+        ListKind::Texts => parse_texts(left, out),
         ListKind::Types => parse_types(alloc, left, out),
         ListKind::Params => parse_params(alloc, left, out),
         ListKind::Names => parse_names(alloc, left, origin, out),
         ListKind::Prefixes => parse_prefixes(left, out),
     }
-}
-
-/// Appends the octets of the strings that all words are. Returns `false` if one is no string, or there is none.
-fn parse_texts(alloc: Global, text: &[u8], out: &mut Vec<u8>) -> Result<bool, AllocError>
-    ensures { IfOk result (AppendsOne (AreTexts text.now) out.old.items out.new.items) }
-{
-    let mut left = after_spaces(text);
-    if left.is_empty() {
-        return Ok(false);
-    }
-    'strings: while !left.is_empty() {
-        let (word, rest) = split_word(left);
-        let start = out.len();
-        out.push(0)?;
-        if !push_string(word, out)? {
-            return Ok(false);
-        }
-        put_len(out, start);
-        left = after_spaces(rest);
-    }
-    Ok(true)
 }
 
 /// Appends the octets of a word's field, whose number is in a form. Returns `false` if it is none of this kind.
@@ -362,7 +371,11 @@ fn parse_eui64(alloc: Global, text: &str, out: &mut Vec<u8>) -> Result<bool, All
 }
 
 /// Appends a length octet and the octets that a word writes. Returns `false` if it writes none.
-fn parse_counted(shown: Shown, word: &[u8], out: &mut Vec<u8>) -> Result<bool, AllocError>
+pub(crate) fn parse_counted(
+    shown: Shown,
+    word: &[u8],
+    out: &mut Vec<u8>,
+) -> Result<bool, AllocError>
     ensures { IfOk result (AppendsOne (AreOctetsOf (SpellsShown shown) counted word.now) out.old.items out.new.items) }
 {
     let start = out.len();

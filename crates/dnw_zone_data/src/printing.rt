@@ -7,6 +7,7 @@ ghost use Rattle.dnw_zone_data.specs.Inside.Steps.{ReadsNext};
 ghost use Rattle.dnw_zone_data.specs.Printing.{Prints, PrintsU16, PrintsU48, PrintsU64, PrintsTime, PrintsCounted, PrintsOctets, PrintsStrings, AppendsFields};
 ghost use Rattle.dnw_zone_data.specs.Appending.{Appended, AppendedInPart};
 
+use crate::bitmaps::write_bits;
 use crate::gateways::write_shaped;
 use crate::name::write_name;
 use crate::name_lists::write_names;
@@ -184,6 +185,8 @@ fn write_octets(kind: Kind, octets: &[u8], out: &mut String) -> Result<bool, All
         Kind::Octets(Shown::Base64) if !octets.is_empty() => write!(out, " {}", Base64(octets))?,
         Kind::Octets(Shown::Hex | Shown::Base64) => {}
         Kind::Octets(Shown::Nsap) => write!(out, " {}", Nsap(octets))?,
+        Kind::Octets(Shown::Ports) => return write_bits(Shown::Ports, octets, out),
+        Kind::Octets(Shown::OldTypes) => return write_bits(Shown::OldTypes, octets, out),
         _ => return Ok(false),
     }
     Ok(true)

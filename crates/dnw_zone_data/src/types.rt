@@ -2,12 +2,14 @@
 ghost use Rattle.std.specs.Prelude.{◌≡◌, ◌≤◌, ◌<◌, ◌+◌, ◌*◌, ◌++◌, ℕ, List, length, IfOk, MatchOption, string_bytes};
 ghost use Rattle.dnw_base.specs.declared.record_type.RecordType.{RecordType};
 ghost use Rattle.dnw_data.specs.TypeSets.{bit_codes, octet_codes, octets_codes};
-ghost use Rattle.dnw_zone_data.specs.TypeLists.{codes_text, is_window, PrintsTypes, IsTypeField, IsTypeWord, AreTypeWords, AreBitmap, AreTypes};
+ghost use Rattle.dnw_zone_data.specs.Bitmaps.{number_text, numbers_text};
+ghost use Rattle.dnw_zone_data.specs.TypeLists.{is_window, PrintsTypes, IsTypeField, IsTypeWord, AreTypeWords, AreBitmap, AreTypes};
 ghost use Rattle.dnw_zone_data.specs.Appending.{Appended, AppendedInPart, AppendsOne};
 
 use crate::words::{after_spaces, is_asterisk, split_word};
 use dnw_base::limits::MAX_WINDOW;
 use dnw_base::record_type::RecordType;
+use dnw_data::kind::Shown;
 use dnw_data::record_type_set::RecordTypeSet;
 use std::alloc::{AllocError, Global};
 use std::str;
@@ -40,7 +42,7 @@ fn push_windows(octets: &[u8], out: &mut String) -> Result<bool, AllocError>
         if !is_window(own) {
             return Ok(false);
         }
-        write_octets(256 * u32::from(*number), own, out)?;
+        write_octets(Shown::OldTypes, 256 * u32::from(*number), own, out)?;
         left = after;
     }
     Ok(true)
@@ -56,44 +58,66 @@ fn is_window(octets: &[u8]) -> bool
     }
 }
 
-/// Appends the types whose bits are set in octets, of which the highest bit stands for the code `first`.
-fn write_octets(first: u32, octets: &[u8], out: &mut String) -> Result<(), AllocError>
+/// Appends the numbers whose bits are set in octets, of which the highest bit stands for the number `first`.
+pub(crate) fn write_octets(
+    shown: Shown,
+    first: u32,
+    octets: &[u8],
+    out: &mut String,
+) -> Result<(), AllocError>
     requires { first + 8 * length octets.now ≤ 65536 }
-    ensures { IfOk result (λ _. string_bytes out.new ≡ string_bytes out.old ++ codes_text (octets_codes first octets.now)) }
+    ensures { IfOk result (λ _. string_bytes out.new ≡ string_bytes out.old ++ numbers_text shown (octets_codes first octets.now)) }
 {
     let mut code = first;
     let mut left = octets;
     while let Some((octet, rest)) = left.split_first() {
-        write_octet(code, *octet, out)?;
+        write_octet(shown, code, *octet, out)?;
         code += 8;
         left = rest;
     }
     Ok(())
 }
 
-/// Appends the types whose bits are set in an octet, of which the highest bit stands for the code `first`.
-fn write_octet(first: u32, octet: u8, out: &mut String) -> Result<(), AllocError>
+/// Appends the numbers whose bits are set in an octet, of which the highest bit stands for the number `first`.
+fn write_octet(shown: Shown, first: u32, octet: u8, out: &mut String) -> Result<(), AllocError>
     requires { first + 8 ≤ 65536 }
-    ensures { IfOk result (λ _. string_bytes out.new ≡ string_bytes out.old ++ codes_text (octet_codes first octet)) }
+    ensures { IfOk result (λ _. string_bytes out.new ≡ string_bytes out.old ++ numbers_text shown (octet_codes first octet)) }
 {
     for bit in 0..8 {
-        write_bit(first, octet, bit, out)?;
+        write_bit(shown, first, octet, bit, out)?;
     }
     Ok(())
 }
 
-/// Appends the type of a bit of an octet, if it is set.
-fn write_bit(first: u32, octet: u8, bit: u32, out: &mut String) -> Result<(), AllocError>
+/// Appends the number of a bit of an octet, if it is set.
+fn write_bit(
+    shown: Shown,
+    first: u32,
+    octet: u8,
+    bit: u32,
+    out: &mut String,
+) -> Result<(), AllocError>
     requires bit { bit < 8 }
     requires fits { first + 8 ≤ 65536 }
-    ensures { IfOk result (λ _. string_bytes out.new ≡ string_bytes out.old ++ codes_text (bit_codes first octet bit)) }
+    ensures { IfOk result (λ _. string_bytes out.new ≡ string_bytes out.old ++ numbers_text shown (bit_codes first octet bit)) }
 {
     if (octet >> (7 - bit)) % 2 != 1 {
         return Ok(());
     }
-    let record_type = RecordType::from((first + bit) as u16);
-    out.push(' ')?;
-    out.push_str(record_type.to_text().as_str())?;
+    write_number(shown, (first + bit) as u16, out)
+}
+
+/// Appends a number after a space: as a record type, or in decimal.
+fn write_number(shown: Shown, number: u16, out: &mut String) -> Result<(), AllocError>
+    ensures { IfOk result (λ _. string_bytes out.new ≡ string_bytes out.old ++ number_text shown number) }
+{
+    match shown {
+        Shown::OldTypes => {
+            out.push(' ')?;
+            out.push_str(RecordType::from(number).to_text().as_str())?;
+        }
+        _ => write!(out, " {number}")?,
+    }
     Ok(())
 }
 
@@ -148,7 +172,7 @@ pub(crate) fn parse_type(word: &[u8], out: &mut Vec<u8>) -> Result<bool, AllocEr
 }
 
 /// Returns the type that a word is. `*` is none: it asks for all types.
-fn type_of_word(word: &[u8]) -> Option<RecordType>
+pub(crate) fn type_of_word(word: &[u8]) -> Option<RecordType>
     ensures { MatchOption result ((record_type : RecordType) → ¬ (IsTypeWord word.now record_type)) (IsTypeWord word.now) }
 {
     if is_asterisk(word) {

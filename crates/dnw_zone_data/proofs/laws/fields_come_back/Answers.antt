@@ -1,4 +1,5 @@
 use Rattle.dnw_zone_data.proofs.ListedBack.{locator_field, node_field, nsap_field, prefixes_field}
+use Rattle.dnw_zone_data.proofs.BitmapsBack.{ports_back, old_types_back}
 use Rattle.dnw_zone_data.proofs.FieldsBack.{u8_back, u16_back, u32_back, time_back, type_back, ipv4_back, string_back, tag_back, salt_back, hash_back, octets_back, text_back, strings_back}
 use Rattle.dnw_zone_data.proofs.GatewaysBack.{shaped_back}
 use Rattle.dnw_zone_data.proofs.NameListsBack.{names_back}
@@ -49,3 +50,6 @@ returns-clause-locators c = (locator_field, node_field, nsap_field)
 
 pub returns-clause-prefixes : goal.returns-clause-prefixes
 returns-clause-prefixes c = prefixes_field
+
+pub returns-clause-bitmaps : goal.returns-clause-bitmaps
+returns-clause-bitmaps c = (ports_back, old_types_back)

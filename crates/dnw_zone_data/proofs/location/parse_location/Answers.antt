@@ -25,5 +25,5 @@ returns c =
     let is = subst (λ (words : List (List ℕ)). AreLocationWords words l) same c.in-Some-location_of.ensures in (
       shaped (record { shape = shapes.Location; octets = location_wire l }),
       (texts c.in-Some.words.items, l, c.in-Some.ensures, is, refl),
-      c.in_ok-extend_from_slice.ensures.items ∙ ap (λ (xs : List ℕ). c.args.out.now.items ++ xs) c.location_octets.ensures,
+      c.in_ok-push_location.ensures,
     )

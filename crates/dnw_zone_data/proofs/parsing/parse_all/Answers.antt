@@ -5,10 +5,10 @@ use Rattle.dnw_zone_data.specs.Parsing.{AreAll}
 use Rattle.dnw_zone_data.proofs.Rests.{all_read}
 use Rattle.dnw_zone_data.proofs.parsing.parse_all.Goals as goal
 
-pub returns-in_ok-parse_joined-in-Octets-clause-reads : goal.returns-in_ok-parse_joined-in-Octets-clause-reads
-returns-in_ok-parse_joined-in-Octets-clause-reads c =
+pub returns-in_ok-parse_all_octets-in-Octets-clause-reads : goal.returns-in_ok-parse_all_octets-in-Octets-clause-reads
+returns-in_ok-parse_all_octets-in-Octets-clause-reads c =
     let Is : FieldValue → Type 0 = λ value. AreAll (option_copied c.args.origin) (Octets c.in-Octets.shown) c.args.left.now value in
-    rw c.in-Octets.is (all_read Is c.args.out.now.items c.parse_joined.new.out.items _ _ c.ended.ensures c.in_ok-parse_joined-in-Octets.ensures)
+    rw c.in-Octets.is (all_read Is c.args.out.now.items c.parse_all_octets.new.out.items _ _ c.ended.ensures c.in_ok-parse_all_octets-in-Octets.ensures)
 
 pub returns-in_ok-parse_list-in-List-clause-reads : goal.returns-in_ok-parse_list-in-List-clause-reads
 returns-in_ok-parse_list-in-List-clause-reads c =
