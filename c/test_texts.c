@@ -159,6 +159,8 @@ static void parses_records(void)
     /* the keys that `mandatory` lists are there (RFC 9460, section 8), and `*` is no type and no class of a record (RFC 1035,
        sections 3.2.3 and 3.2.5) */
     EXPECT(gives(DATA(DNW_TYPE_SVCB, "1 . key9 mandatory=key9"), OCTETS("\000\001\000\000\000\000\002\000\011\000\011\000\000")));
+    EXPECT(gives(DATA(DNW_TYPE_WKS, "10.0.0.1 TCP 80 smtp"), OCTETS("\012\000\000\001\006\000\000\000\100\000\000\000\000\000\000\200")));
+    EXPECT(gives(DATA(DNW_TYPE_NXT, "b. A MX SIG NXT"), OCTETS("\001b\000\100\001\000\202")));
     EXPECT(fails(DATA(DNW_TYPE_SVCB, "1 . mandatory=key9")) == DNW_BAD_DATA);
     EXPECT(fails(DATA(DNW_TYPE_SVCB, "1 . key0=\"\\000\\011\"")) == DNW_BAD_DATA);
     EXPECT(fails(DATA(DNW_TYPE_NSEC, ". *")) == DNW_BAD_DATA);
@@ -267,6 +269,11 @@ static void finds_faults(void)
     EXPECT(goes_wrong(DATA(DNW_TYPE_MX, "1 ("), 2, 0, 1, DNW_REASON_NAME));
     EXPECT(goes_wrong(DATA_BELOW(DNW_TYPE_MX, "1 b c", COM), 4, 1, 2, DNW_REASON_END));
     EXPECT(goes_wrong(DATA(65280, "00"), 0, 2, 0, DNW_REASON_GENERIC));
+    EXPECT(goes_wrong(DATA(DNW_TYPE_WKS, "10.0.0.1 xyz 25"), 9, 3, 1, DNW_REASON_PROTOCOL));
+    EXPECT(goes_wrong(DATA(DNW_TYPE_WKS, "10.0.0.1 TCP 25 65536"), 13, 2, 2, DNW_REASON_PORTS));
+    EXPECT(goes_wrong(DATA(DNW_TYPE_NXT, "b. A TYPE128"), 3, 1, 1, DNW_REASON_OLD_TYPES));
+    EXPECT(goes_wrong(DATA(DNW_TYPE_SVCB, "1 . mandatory=alpn port=1"), 4, 14, 2, DNW_REASON_MANDATORY));
+    EXPECT(goes_wrong(DATA(DNW_TYPE_SVCB, "1 . port=1 port=1"), 4, 6, 2, DNW_REASON_PARAMS));
     struct dnw_text_fault fault = {7, 7, 7, 7};
     EXPECT(dnw_record_text_fault(BYTES("a. 1 A 1.2.3.4"), BYTES("\001"), &fault) == DNW_MESSAGE_CUT && fault.offset == 7);
     EXPECT(dnw_data_text_fault(1, 1, BYTES("1.2.3.4"), BYTES("\0000"), &fault) == DNW_BYTES_LEFT && fault.reason == 7);
@@ -281,8 +288,8 @@ static void prints_faults(void)
     EXPECT(says((struct dnw_text_fault){1, 1, 1, DNW_REASON_NONE}, ""));
     EXPECT(says((struct dnw_text_fault){1, 1, 1, DNW_REASON_WORDS_LEFT + 1}, ""));
     EXPECT(says((struct dnw_text_fault){1, 1, 1, DNW_REASON_NAME - 1}, ""));
-    EXPECT(says((struct dnw_text_fault){1, 1, 1, DNW_REASON_PREFIXES + 1}, ""));
-    for (uint32_t reason = 0; reason <= DNW_REASON_PREFIXES; reason++) {
+    EXPECT(says((struct dnw_text_fault){1, 1, 1, DNW_REASON_MANDATORY + 1}, ""));
+    for (uint32_t reason = 0; reason <= DNW_REASON_MANDATORY; reason++) {
         size_t len = 0;
         struct dnw_text_fault fault = {SIZE_MAX, 0, SIZE_MAX, reason};
         EXPECT(dnw_text_fault_print(&fault, text, DNW_SENTENCE_SIZE, &len) == DNW_DONE && len <= DNW_SENTENCE_SIZE);

@@ -571,7 +571,11 @@ enum dnw_text_reason {
     DNW_REASON_LOCATOR = 66,                  /* four groups of hexadecimal digits: `2001:db8:1140:1000` */
     DNW_REASON_NODE_NUMBER = 67,              /* a number of eight octets, in decimal */
     DNW_REASON_NSAP = 68,                     /* octets in hexadecimal after `0x` */
-    DNW_REASON_PREFIXES = 69                  /* address prefixes up to the end: `1:192.0.2.0/24` */
+    DNW_REASON_PREFIXES = 69,                 /* address prefixes up to the end: `1:192.0.2.0/24` */
+    DNW_REASON_PROTOCOL = 70,                 /* a protocol by its number or its name: `TCP` */
+    DNW_REASON_PORTS = 71,                    /* ports up to the end, by their numbers or the names of services: `smtp` */
+    DNW_REASON_OLD_TYPES = 72,                /* record types of codes of 1 to 127 up to the end */
+    DNW_REASON_MANDATORY = 73                 /* service parameters of which `mandatory` lists keys of the others */
 };
 
 /* Where a text goes wrong: at `offset`, in octets, where a word of `len` octets is (0 if none is: at the end, or at a

@@ -63,6 +63,10 @@ reason_entry why.Locator = entry 66 (codes "wanted four groups of hexadecimal di
 reason_entry why.NodeNumber = entry 67 (codes "wanted a number of at most 18446744073709551615")
 reason_entry why.Nsap = entry 68 (codes "wanted `0x` and octets in hexadecimal")
 reason_entry why.Prefixes = entry 69 (codes "wanted address prefixes, each as 1:192.0.2.0/24")
+reason_entry why.Protocol = entry 70 (codes "wanted a protocol by its number or name")
+reason_entry why.Ports = entry 71 (codes "wanted ports or names of services")
+reason_entry why.OldTypes = entry 72 (codes "wanted record types of codes of 1 to 127")
+reason_entry why.Mandatory = entry 73 (codes "wanted `mandatory` to list keys of other parameters that are there")
 
 abbrev pub reason_number : Reason → ℕ
 reason_number reason = (reason_entry reason).code

@@ -122,6 +122,14 @@ pub enum Reason {
     Nsap,
     /// Address prefixes up to the end: `1:192.0.2.0/24`.
     Prefixes,
+    /// A protocol by its number or its name: `TCP`.
+    Protocol,
+    /// Ports up to the end, by their numbers or the names of services: `smtp`.
+    Ports,
+    /// Record types of codes of 1 to 127 up to the end.
+    OldTypes,
+    /// Service parameters of which `mandatory` lists keys of the others.
+    Mandatory,
 }
 
 /// The table of the reasons: each with its number in C and the words of its sentence. The rule that is named gets the rows, after
@@ -186,6 +194,10 @@ macro_rules! reasons {
             NodeNumber = 67, "wanted a number of at most 18446744073709551615";
             Nsap = 68, "wanted `0x` and octets in hexadecimal";
             Prefixes = 69, "wanted address prefixes, each as 1:192.0.2.0/24";
+            Protocol = 70, "wanted a protocol by its number or name";
+            Ports = 71, "wanted ports or names of services";
+            OldTypes = 72, "wanted record types of codes of 1 to 127";
+            Mandatory = 73, "wanted `mandatory` to list keys of other parameters that are there";
         }
     };
 }

@@ -1,12 +1,12 @@
 -- What is printed of fields and of data stays as it is in a line.
 use Rattle.std.proofs.Common.{◌≡◌, ◌≤◌, ◌<◌, ◌⊎◌, ◌+◌, ◌-◌, ◌*◌, ◌^◌, ◌/◌, ◌%◌, ◌==◌, ◌&&◌, ℕ, zero, suc, true, List, [], ◌∷◌, ◌++◌, length, take, drop, slice_index, refl, sym, ap, ◌∙◌, subst, arith, append_assoc, append-nil, inl, inr, decimal}
-use Rattle.std.specs.Prelude.{nat_le, flat_map, Some}
+use Rattle.std.specs.Prelude.{nat_le, nat_lt, flat_map, Some}
 use Rattle.std.specs.Char.{is_ascii_digit, is_ascii_alphanumeric}
 use Rattle.std.specs.Int.{w16, w64, from_be_bytes, to_be_bytes}
-use Rattle.std.specs.List.{AllPass}
+use Rattle.std.specs.List.{AllByRecursion, AllPass}
 use Rattle.std.specs.Net.Addr.{segments_of}
 use Rattle.std.specs.Net.Text.{ipv6_text}
-use Rattle.std.proofs.lemmas.Bool.{and_parts, cases_Bool, cases_lt, leb-true}
+use Rattle.std.proofs.lemmas.Bool.{and_parts, cases_Bool, cases_lt, leb-true, ltb-true}
 use Rattle.std.proofs.lemmas.List.{length-take-le}
 use Rattle.dnw_base.specs.Decoder.{Decoder}
 use Rattle.dnw_base.specs.Names.{label_wire, wire}
@@ -30,12 +30,13 @@ use Rattle.dnw_base.specs.Limits.{max_data}
 use Rattle.dnw_zone_values.proofs.Identifiers.{hash}
 use Rattle.dnw_zone_values.specs.Base32.{base32_text, is_base32}
 use Rattle.dnw_zone_values.specs.Octets.{IsOctets, base64_text, hex_text, salt_text}
-use Rattle.dnw_zone_values.specs.Prefixes.{prefix_text}
+use Rattle.dnw_zone_values.specs.Prefixes.{ends_in_no_zero, prefix_text}
 use Rattle.dnw_zone_values.specs.Pairs.{lower_digit, pairs_text}
 use Rattle.dnw_zone_values.specs.Strings.{string_text}
 use Rattle.dnw_zone_values.specs.Params.{ParamValue}
 use Rattle.dnw_zone_values.specs.ParamTexts.{param_text, params_within}
 use Rattle.dnw_zone_values.proofs.ParamTextsBack.{IsShaped, bare_open, base64_open, drop_fit, ipv6_bare, map_some, param_shaped, segments_fit, take_fit}
+use Rattle.dnw_zone_data.specs.Bitmaps.{numbers_text, PrintsBits}
 use Rattle.dnw_zone_data.specs.DataTexts.{IsDataText, IsPlainData, without_space}
 use Rattle.dnw_zone_data.specs.Gateways.{PrintsEnd, PrintsShaped, identity_wire, relay_flag, three_words}
 use Rattle.dnw_zone_data.specs.Generic.{generic_text, hex_part}
@@ -43,6 +44,7 @@ use Rattle.dnw_zone_data.specs.NameLists.{names_text}
 use Rattle.dnw_zone_data.specs.Printing.{Prints, PrintsFields, base64_part, strings_text}
 use Rattle.dnw_zone_data.specs.PrefixLists.{first_prefix_size, prefixes_within}
 use Rattle.dnw_zone_data.specs.TypeLists.{code_text, codes_text, codes_within, is_window}
+use Rattle.dnw_zone_data.proofs.BitmapsBack.{IsBit, old_type_plain, old_types_are, port_plain, ports_are}
 use Rattle.dnw_zone_data.proofs.CodesWithin.{Within, octets_within}
 use Rattle.dnw_zone_data.proofs.DataBack.{data_fit}
 use Rattle.dnw_zone_data.proofs.FieldValues.{counted_fit, labels_fit}
@@ -260,6 +262,29 @@ by_none kind value own text e print h = absurd (h (subst (λ (v : FieldValue). P
 number_kept : (n : ℕ) (text : List ℕ) → n < 2 ^ 64 → text ≡ 32 ∷ decimal n → Keeps Words text Words
 number_kept n text few e = kept_by text (decimal n) e (keeps_plain (decimal n) (decimal_plain n few))
 
+port_numbers_kept : (ns : List ℕ) → AllByRecursion (IsBit Ports) ns → Keeps Words (numbers_text Ports ns) Words
+port_numbers_kept [] h = keeps_none Words
+port_numbers_kept (n ∷ ns) h =
+    keeps_both (32 ∷ decimal n) (numbers_text Ports ns) Words Words Words (keeps_spaced (decimal n) (keeps_plain (decimal n) (port_plain n h.0).0)) (port_numbers_kept ns h.1)
+
+ports_kept : (own text : List ℕ) → PrintsBits Ports own text → Keeps Words text Words
+ports_kept own text (is, e) =
+    let few = leb-true (length own) 8192 (and_parts (nat_le (length own) 8192) (ends_in_no_zero own) is).0 in
+    subst (λ (t : List ℕ). Keeps Words t Words) (sym e) (port_numbers_kept (octets_codes 0 own) (ports_are own few))
+
+type_numbers_kept : (ns : List ℕ) → AllByRecursion (IsBit OldTypes) ns → Keeps Words (numbers_text OldTypes ns) Words
+type_numbers_kept [] h = keeps_none Words
+type_numbers_kept (n ∷ ns) h =
+    let w = type_text (type_of_code n) in
+    keeps_both (32 ∷ w) (numbers_text OldTypes ns) Words Words Words (keeps_spaced w (keeps_plain w (old_type_plain n h.0.1).0)) (type_numbers_kept ns h.1)
+
+old_types_kept : (own text : List ℕ) → PrintsBits OldTypes own text → Keeps Words text Words
+old_types_kept own text (is, e) =
+    let tests = and_parts (nat_le (length own) 16) (nat_lt (slice_index own 0) 128 && ends_in_no_zero own) is in
+    let more = and_parts (nat_lt (slice_index own 0) 128) (ends_in_no_zero own) tests.1 in
+    let are = old_types_are own (leb-true (length own) 16 tests.0) (ltb-true (slice_index own 0) 128 more.0) in
+    subst (λ (t : List ℕ). Keeps Words t Words) (sym e) (type_numbers_kept (octets_codes 0 own) are)
+
 field_kept : (kind : Kind) (d : Decoder) (value : FieldValue) (after : Decoder) (text : List ℕ) → AreBytes d.bytes → TakesField kind d value after
     → Prints kind value text → Keeps Words text Words
 field_kept (kinds.Name form) d value after text h (ls, k, takes, e) print =
@@ -344,9 +369,9 @@ field_kept (kinds.Octets MaybeBase64) d value after text h takes print =
 field_kept (kinds.Octets Nsap) d value after text h takes print =
     by_value (kinds.Octets Nsap) value _ text takes.2 print (λ p. kept_by text _ p (keeps_plain _ (nsap_plain _ (own_fit (kinds.Octets Nsap) d h))))
 field_kept (kinds.Octets Ports) d value after text h takes print =
-    by_none (kinds.Octets Ports) value (octets (own_at (kinds.Octets Ports) d)) text takes.2 print (λ p. p)
+    by_value (kinds.Octets Ports) value _ text takes.2 print (ports_kept (own_at (kinds.Octets Ports) d) text)
 field_kept (kinds.Octets OldTypes) d value after text h takes print =
-    by_none (kinds.Octets OldTypes) value (octets (own_at (kinds.Octets OldTypes) d)) text takes.2 print (λ p. p)
+    by_value (kinds.Octets OldTypes) value _ text takes.2 print (old_types_kept (own_at (kinds.Octets OldTypes) d) text)
 field_kept (kinds.List lists.Prefixes) d value after text h takes print =
     let own = own_at (kinds.List lists.Prefixes) d in
     by_value (kinds.List lists.Prefixes) value _ text takes.2 print (λ p. prefixes_kept (length own) own text (own_fit (kinds.List lists.Prefixes) d h) p)

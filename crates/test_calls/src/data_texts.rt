@@ -313,7 +313,11 @@ fn a_line_has_at_most_65535_octets_of_data(rt: HostRuntime) -> Result<(), Fail> 
     assert!(rt;
         matches!(
             parse_record(alloc, line.as_str(), None),
-            Err(RecordLineError::TooLong { offset: 8 })
+            Err(RecordLineError::Data(DataTextError::Wanted {
+                field: 0,
+                offset: 8,
+                wanted: Wanted::FewerOctets,
+            }))
         )
     );
     Ok(())
