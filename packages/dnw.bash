@@ -1,33 +1,35 @@
 # Completion of the words of dnw, for bash.
 _dnw() {
-    local word=${COMP_WORDS[COMP_CWORD]} command=${COMP_WORDS[1]} words=
-    case $command,$COMP_CWORD in
-        *,1) words='message query name key-tag ds nsec3 zone-digest zone --help' ;;
-        message,* | zone,2)
-            if [[ $command = message && $word = --* ]]; then
-                words='--lines --framed --json'
-            else
-                mapfile -t COMPREPLY < <(compgen -f -- "$word")
-                return
-            fi
-            ;;
-        nsec3,4 | zone-digest,4) words=- ;;
-        query,3)
+    local word=${COMP_WORDS[COMP_CWORD]} before=${COMP_WORDS[COMP_CWORD - 1]} command=${COMP_WORDS[1]} words= options= option
+    case $command in
+        message) options='--lines --framed --json' ;;
+        query) options='--id= --edns --dnssec --option= --tcp' ;;
+        name) options='--key --reverse --sort' ;;
+        zone) options='--origin --sort --relative --wire --check' ;;
+    esac
+    case $command,$COMP_CWORD,$before in
+        *,1,*) words='message query name key-tag ds nsec3 zone-digest zone --help' ;;
+        zone,*,--origin) ;;
+        query,3,*)
             words='A AAAA CAA CDNSKEY CDS CNAME DNSKEY DS HINFO HTTPS LOC MX NAPTR NS NSEC NSEC3 NSEC3PARAM OPENPGPKEY PTR RRSIG SMIMEA
                 SOA SRV SSHFP SVCB TLSA TXT URI ZONEMD ANY AXFR IXFR'
             ;;
-        query,[4-9]) words='--id= --edns --dnssec --option= --tcp' ;;
-        name,2) words='--key --reverse --sort' ;;
-        name,3) [ "${COMP_WORDS[2]}" != --sort ] || words=- ;;
-        zone,3) words=--origin ;;
-        zone,5) words='--sort --relative --wire --check' ;;
-        zone,6)
-            case ${COMP_WORDS[5]} in
-                --sort) words='--relative --wire --check' ;;
-                --relative | --wire | --check) words=--sort ;;
-            esac
-            ;;
+        nsec3,4,*) words=- ;;
+        message,2,* | zone,2,* | zone-digest,4,* | name,*,--sort) [[ $word = --* ]] || words=FILES ;;
     esac
+    if [ "$words" = FILES ]; then
+        mapfile -t COMPREPLY < <(compgen -f -- "$word")
+        return
+    fi
+    # The options that are not there yet, unless another word is wanted.
+    if [ -z "$words" ] && [ "$before" != --origin ]; then
+        for option in $options; do
+            [[ " ${COMP_WORDS[*]:2:COMP_CWORD-2} " = *" $option "* ]] || words+=" $option"
+        done
+    fi
     mapfile -t COMPREPLY < <(compgen -W "$words" -- "$word")
+    # Before the file an option may be there, and after an option the file.
+    [[ $command != message && $command != zone || $before = --origin || ${#COMPREPLY[@]} != 0 ]] ||
+        mapfile -t COMPREPLY < <(compgen -f -- "$word")
 }
 complete -F _dnw dnw

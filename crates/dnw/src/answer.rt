@@ -1,10 +1,10 @@
 //! What the program answers to its words.
 
-use dnw_shell_base::{Refusal, Watch};
+use crate::names::{names, nsec3, record};
+use crate::queries::query_of;
+use dnw_shell_base::{Misuse, Refusal, Watch};
 use dnw_shell_messages::messages;
-use dnw_shell_names::names::names;
-use dnw_shell_names::queries::query;
-use dnw_shell_names::sums::{ds_text, key_tag_text, nsec3_text};
+use dnw_shell_names::sums::{ds_text, key_tag_text};
 use dnw_shell_zones::{digest, zone};
 use std::io;
 use std::io::{Read, Write};
@@ -20,13 +20,16 @@ usage: dnw message HEX | FILE | - [OPTION..]   shows messages: digits, a file or
        dnw name NAME..                         shows the wire form of each name
        dnw name --key NAME..                   shows sort keys
        dnw name --reverse ADDRESS..            shows the names of the addresses' PTR records
-       dnw name --sort -                       puts names, a line each, in canonical order
+       dnw name --sort FILE                    puts names, a line each, in canonical order
        dnw key-tag RECORD                      computes the key tag of a DNSKEY record
        dnw ds RECORD                           makes the DS record of a DNSKEY record
        dnw nsec3 NAME ITERATIONS SALT          hashes a name for NSEC3
-       dnw zone-digest APEX ALGORITHM -        computes the digest of a zone file
+       dnw zone-digest APEX ALGORITHM FILE     computes the digest of a zone file
        dnw zone FILE --origin NAME [OPTION..]  lists the records of a zone file, or its errors
        dnw --help                              shows this text
+
+Options stand anywhere after the command, a value after = or as the next word. None is after the
+word --. The FILE - is standard input.
 
 A message is shown as dig shows it. A file has it as it is, or as hexadecimal digits. A name of a
 file that has digits alone begins with ./ here. If one of many is refused, its line says why.
@@ -42,7 +45,8 @@ A query asks for recursion, in the class IN.
   --tcp              puts the length in front, as over TCP
 
 A zone file is shown as one line a record, with nothing left out. If an entry is wrong, all errors
-are shown instead, as FILE:LINE:COLUMN, with the line and a mark. The FILE - is standard input.
+are shown instead, as FILE:LINE:COLUMN, with the line and a mark. Names without a dot at their end
+are below the NAME of --origin.
   --sort      canonical order: by owner, type and data (RFC 4034, section 6)
   --relative  a zone file, which leaves out what its $ORIGIN, $TTL and the last owner say
   --wire      one line a record: its wire form without compression (RFC 1035, section 4.1.3), in
@@ -52,7 +56,7 @@ are shown instead, as FILE:LINE:COLUMN, with the line and a mark. The FILE - is 
               a record of another zone; or a warning, such as two times to live in a set
 
 Exit status: 0 after an answer, 1 if what was given is refused or a check finds an error, 2 if the
-words ask for nothing.
+words ask for nothing, and then standard error says why.
 
 Examples: dnw query example.com. MX --dnssec | dnw message -
           dnw message replies.bin --framed --json
@@ -61,28 +65,33 @@ Examples: dnw query example.com. MX --dnssec | dnw message -
               dnw message -";
 
 /// Writes the answer to the words, the program's own name not among them, and returns the exit status: 0 for an
-/// answer, 1 for a refusal, 2 for words that ask for nothing. What watches long work is told when it
-/// ends, before anything is written. It fails if the answer cannot be written.
-pub fn answer<E: Files + RandomSource + AllocGlobal, I: Read, W: Write, P: Watch>(
+/// answer, 1 for a refusal, 2 for words that ask for nothing, of which a line in `errors` says why. What watches long work is told when
+/// it ends, before anything is written. It fails if the answer cannot be written.
+pub fn answer<E: Files + RandomSource + AllocGlobal, I: Read, W: Write, X: Write, P: Watch>(
     env: &E,
-    words: &[String],
+    words: Result<&[String], Misuse>,
     input: &mut I,
     out: &mut W,
+    errors: &mut X,
     watch: &mut P,
 ) -> io::Result<u8> {
-    let replied = reply(env, words, input, watch);
+    let replied = match words {
+        Ok(words) => reply(env, words, input, watch),
+        Err(misuse) => Err(misuse.into()),
+    };
     watch.ends();
     match replied {
         Ok(text) => {
             writeln!(out, "{text}")?;
             Ok(0)
         }
+        Err(Refusal::Usage(misuse)) => {
+            writeln!(errors, "dnw: {misuse} (see dnw --help)")?;
+            Ok(2)
+        }
         Err(refusal) => {
             writeln!(out, "{refusal}")?;
-            Ok(match refusal {
-                Refusal::Usage => 2,
-                _ => 1,
-            })
+            Ok(1)
         }
     }
 }
@@ -94,38 +103,19 @@ fn reply<E: Files + RandomSource + AllocGlobal, I: Read, P: Watch>(
     watch: &mut P,
 ) -> Result<String, Refusal> {
     let alloc = env.alloc();
-    match words {
-        [command, words @ ..] if command.as_str() == "message" => {
-            messages(env, alloc, words, input, watch)
-        }
-        [command, name, record_type, words @ ..] if command.as_str() == "query" => {
-            query(env, alloc, name.as_str(), record_type.as_str(), words)
-        }
-        [command, words @ ..] if command.as_str() == "name" => names(alloc, words, input),
-        [command, line] if command.as_str() == "key-tag" => key_tag_text(alloc, line.as_str()),
-        [command, line] if command.as_str() == "ds" => ds_text(alloc, line.as_str()),
-        [command, name, iterations, salt] if command.as_str() == "nsec3" => {
-            nsec3_text(alloc, name.as_str(), iterations.as_str(), salt.as_str())
-        }
-        [command, apex, algorithm, dash]
-            if command.as_str() == "zone-digest" && dash.as_str() == "-" => {
-            digest(env, alloc, apex.as_str(), algorithm.as_str(), input, watch)
-        }
-        [command, file, option, origin, options @ ..]
-            if command.as_str() == "zone" && option.as_str() == "--origin" => {
-            zone(
-                env,
-                alloc,
-                file.as_str(),
-                origin.as_str(),
-                options,
-                input,
-                watch,
-            )
-        }
-        [option] if option.as_str() == "--help" || option.as_str() == "-h" => {
-            Ok(String::from_str(alloc, HELP)?)
-        }
-        _ => Err(Refusal::Usage),
+    let [command, words @ ..] = words else {
+        return Err(Misuse::NoCommand.into());
+    };
+    match command.as_str() {
+        "message" => messages(env, alloc, words, input, watch),
+        "query" => query_of(env, alloc, words),
+        "name" => names(env, alloc, words, input),
+        "key-tag" => key_tag_text(alloc, record(alloc, words)?),
+        "ds" => ds_text(alloc, record(alloc, words)?),
+        "nsec3" => nsec3(alloc, words),
+        "zone-digest" => digest(env, alloc, words, input, watch),
+        "zone" => zone(env, alloc, words, input, watch),
+        "--help" | "-h" => Ok(String::from_str(alloc, HELP)?),
+        other => Err(Misuse::Command(String::from_str(alloc, other)?).into()),
     }
 }

@@ -2,9 +2,11 @@
 #![tactic(auto)]
 
 mod answer;
+mod names;
+mod queries;
 
 use answer::answer;
-use dnw_shell_base::{Progress, Watch};
+use dnw_shell_base::{Misuse, Progress, Watch};
 use std::io::{IsTerminal, Read, Write};
 use std::process::ExitCode;
 use std::random::RandomSource;
@@ -20,16 +22,18 @@ fn words<E: Env + AllocGlobal>(env: &E) -> io::Result<Vec<String>> {
     Ok(words)
 }
 
-fn run<E: Env + Files + RandomSource + AllocGlobal, I: Read, W: Write, P: Watch>(
+fn run<E: Env + Files + RandomSource + AllocGlobal, I: Read, W: Write, X: Write, P: Watch>(
     env: &E,
     input: &mut I,
     out: &mut W,
+    errors: &mut X,
     watch: &mut P,
 ) -> io::Result<u8> {
     match words(env) {
-        Ok(words) => answer(env, words.as_slice(), input, out, watch),
-        // Words that are not text ask for nothing that the program does, as no words do.
-        Err(e) if e.kind() == io::ErrorKind::InvalidData => answer(env, &[], input, out, watch),
+        Ok(words) => answer(env, Ok(words.as_slice()), input, out, errors, watch),
+        Err(e) if e.kind() == io::ErrorKind::InvalidData => {
+            answer(env, Err(Misuse::NotText), input, out, errors, watch)
+        }
         Err(e) => Err(e),
     }
 }
@@ -37,7 +41,8 @@ fn run<E: Env + Files + RandomSource + AllocGlobal, I: Read, W: Write, P: Watch>
 fn main(rt: HostRuntime) -> ExitCode {
     let is_terminal = rt.stderr().is_terminal();
     let mut progress = Progress::new(rt.alloc(), &rt, rt.stderr(), is_terminal);
-    match run(&rt, &mut rt.reader(), &mut io::writer(&rt), &mut progress) {
+    let (mut input, mut out, mut errors) = (rt.reader(), io::writer(&rt), rt.stderr());
+    match run(&rt, &mut input, &mut out, &mut errors, &mut progress) {
         Ok(status) => ExitCode::from(status),
         Err(_) => ExitCode::FAILURE,
     }

@@ -1,8 +1,10 @@
 //! What commands are given: files, standard input, and hexadecimal digits.
-ghost use Rattle.std.specs.Prelude.{◌≡◌, Ok, IfOk, IfErr, IsErr};
+ghost use Rattle.std.specs.Prelude.{◌≡◌, ◌⊎◌, codes, Ok, IfOk, IfErr, IsErr};
 ghost use Rattle.hex.specs.Hex.{decode_of};
-ghost use Rattle.dnw_shell_base.specs.declared.refusal.Refusal.TheVariants.{Usage};
+ghost use Rattle.dnw_shell_base.specs.Refusals.{IsMemory, SaysWrong};
+ghost use Rattle.dnw_shell_base.specs.declared.refusal.Refusal.TheVariants.{Digits};
 
+use crate::misuse::Misuse;
 use crate::refusal::Refusal;
 use dns_names_wire::ProtoError;
 use hex::FromHexError;
@@ -38,14 +40,30 @@ fn read_file<E: Files>(env: &E, file: &str, octets: &mut Vec<u8>) -> io::Result<
     Ok(())
 }
 
-/// Returns the octets that hexadecimal digits of either case stand for, two each. It fails with `Usage` if the text is not of such
+/// Returns the octets that a word of hexadecimal digits stands for.
+pub fn word_octets(alloc: Global, word: &str) -> Result<Vec<u8>, Refusal>
+    ensures ok { IfOk result (λ octets. decode_of word.now ≡ Ok octets.items) }
+    ensures err { IfErr result (λ e. IsMemory e
+        ⊎ (IsErr (decode_of word.now) × SaysWrong (codes "hexadecimal digits, two for each octet") word.now e)) }
+{
+    match octets(alloc, word) {
+        Err(Refusal::Digits) => Err(Misuse::wrong(
+            alloc,
+            "hexadecimal digits, two for each octet",
+            word,
+        )),
+        other => other,
+    }
+}
+
+/// Returns the octets that hexadecimal digits of either case stand for, two each. It fails with `Digits` if the text is not of such
 /// digits, and else only if an allocation fails.
 pub fn octets(alloc: Global, text: &str) -> Result<Vec<u8>, Refusal>
     ensures ok { IfOk result (λ octets. decode_of text.now ≡ Ok octets.items) }
-    ensures err { IfErr result (λ e. e ≡ Usage → IsErr (decode_of text.now)) }
+    ensures err { IfErr result (λ e. IsMemory e ⊎ ((e ≡ Digits) × IsErr (decode_of text.now))) }
 {
     hex::decode(alloc, text).map_err(|e| match e {
         FromHexError::OutOfMemory => Refusal::Proto(ProtoError::Memory),
-        _ => Refusal::Usage,
+        _ => Refusal::Digits,
     })
 }

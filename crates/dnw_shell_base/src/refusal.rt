@@ -1,5 +1,6 @@
 //! Why there is no answer.
 
+use crate::misuse::Misuse;
 use dns_names_wire::data_text::RecordEntryError;
 use dns_names_wire::dnssec::DnssecError;
 use dns_names_wire::message::{EdnsError, MessageError};
@@ -16,8 +17,8 @@ use thiserror::Error;
 #[derive(Debug, Drop, Error)]
 pub enum Refusal {
     /// The words ask for nothing that the program does.
-    #[error("usage: dnw message | query | name | key-tag | ds | nsec3 | zone-digest | zone WORD.. (dnw --help says which)")]
-    Usage,
+    #[error("{0}")]
+    Usage(Misuse),
     /// Standard input could not be read.
     #[error("refused: standard input: {0}")]
     Input(io::Error),
@@ -41,7 +42,7 @@ pub enum Refusal {
     /// A message was refused.
     #[error("refused: {0}")]
     Message(MessageError),
-    /// The line of a message has something else than hexadecimal digits, two for each octet.
+    /// There is something else than hexadecimal digits, two for each octet.
     #[error("refused: wanted hexadecimal digits, two for each octet")]
     Digits,
     /// A stream of messages ends within a length or a message.
@@ -89,73 +90,142 @@ pub enum Refusal {
     Zone(String),
 }
 
+impl From<Misuse> for Refusal {
+    ghost use Rattle.std.specs.Prelude.{◌≡◌};
+    ghost use Rattle.dnw_shell_base.specs.declared.refusal.Refusal.TheVariants.{Usage};
+
+    ghost from_gives = { λ error refusal. refusal ≡ Usage error };
+
+    fn from(e: Misuse) -> Self {
+        Refusal::Usage(e)
+    }
+}
+
 impl From<NameTextError> for Refusal {
+    ghost use Rattle.std.specs.Prelude.{◌≡◌};
+    ghost use Rattle.dnw_shell_base.specs.declared.refusal.Refusal.TheVariants.{Name};
+
+    ghost from_gives = { λ error refusal. refusal ≡ Name error };
+
     fn from(e: NameTextError) -> Self {
         Refusal::Name(e)
     }
 }
 
 impl From<io::Error> for Refusal {
+    ghost use Rattle.std.specs.Prelude.{◌≡◌};
+    ghost use Rattle.dnw_shell_base.specs.declared.refusal.Refusal.TheVariants.{Input};
+
+    ghost from_gives = { λ error refusal. refusal ≡ Input error };
+
     fn from(e: io::Error) -> Self {
         Refusal::Input(e)
     }
 }
 
 impl From<ProtoError> for Refusal {
+    ghost use Rattle.std.specs.Prelude.{◌≡◌};
+    ghost use Rattle.dnw_shell_base.specs.declared.refusal.Refusal.TheVariants.{Proto};
+
+    ghost from_gives = { λ error refusal. refusal ≡ Proto error };
+
     fn from(e: ProtoError) -> Self {
         Refusal::Proto(e)
     }
 }
 
 impl From<MessageError> for Refusal {
+    ghost use Rattle.std.specs.Prelude.{◌≡◌};
+    ghost use Rattle.dnw_shell_base.specs.declared.refusal.Refusal.TheVariants.{Message};
+
+    ghost from_gives = { λ error refusal. refusal ≡ Message error };
+
     fn from(e: MessageError) -> Self {
         Refusal::Message(e)
     }
 }
 
 impl From<DecodeError> for Refusal {
+    ghost use Rattle.std.specs.Prelude.{◌≡◌};
+    ghost use Rattle.dnw_shell_base.specs.declared.refusal.Refusal.TheVariants.{Decode};
+
+    ghost from_gives = { λ error refusal. refusal ≡ Decode error };
+
     fn from(e: DecodeError) -> Self {
         Refusal::Decode(e)
     }
 }
 
 impl From<WriteError> for Refusal {
+    ghost use Rattle.std.specs.Prelude.{◌≡◌};
+    ghost use Rattle.dnw_shell_base.specs.declared.refusal.Refusal.TheVariants.{Write};
+
+    ghost from_gives = { λ error refusal. refusal ≡ Write error };
+
     fn from(e: WriteError) -> Self {
         Refusal::Write(e)
     }
 }
 
 impl From<RecordEntryError> for Refusal {
+    ghost use Rattle.std.specs.Prelude.{◌≡◌};
+    ghost use Rattle.dnw_shell_base.specs.declared.refusal.Refusal.TheVariants.{Entry};
+
+    ghost from_gives = { λ error refusal. refusal ≡ Entry error };
+
     fn from(e: RecordEntryError) -> Self {
         Refusal::Entry(e)
     }
 }
 
 impl From<RDataError> for Refusal {
+    ghost use Rattle.std.specs.Prelude.{◌≡◌};
+    ghost use Rattle.dnw_shell_base.specs.declared.refusal.Refusal.TheVariants.{Data};
+
+    ghost from_gives = { λ error refusal. refusal ≡ Data error };
+
     fn from(e: RDataError) -> Self {
         Refusal::Data(e)
     }
 }
 
 impl From<DnssecError> for Refusal {
+    ghost use Rattle.std.specs.Prelude.{◌≡◌};
+    ghost use Rattle.dnw_shell_base.specs.declared.refusal.Refusal.TheVariants.{Sum};
+
+    ghost from_gives = { λ error refusal. refusal ≡ Sum error };
+
     fn from(e: DnssecError) -> Self {
         Refusal::Sum(e)
     }
 }
 
 impl From<CheckError> for Refusal {
+    ghost use Rattle.std.specs.Prelude.{◌≡◌};
+    ghost use Rattle.dnw_shell_base.specs.declared.refusal.Refusal.TheVariants.{Check};
+
+    ghost from_gives = { λ error refusal. refusal ≡ Check error };
+
     fn from(e: CheckError) -> Self {
         Refusal::Check(e)
     }
 }
 
 impl<T: Drop> From<AllocFailed<T>> for Refusal {
+    ghost use Rattle.dnw_shell_base.specs.Refusals.{IsMemory};
+
+    ghost from_gives = { λ _ refusal. IsMemory refusal };
+
     fn from(_: AllocFailed<T>) -> Self {
         Refusal::Proto(ProtoError::Memory)
     }
 }
 
 impl From<AllocError> for Refusal {
+    ghost use Rattle.dnw_shell_base.specs.Refusals.{IsMemory};
+
+    ghost from_gives = { λ _ refusal. IsMemory refusal };
+
     fn from(_: AllocError) -> Self {
         Refusal::Proto(ProtoError::Memory)
     }

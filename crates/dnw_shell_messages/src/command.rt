@@ -4,7 +4,7 @@ use crate::page::Page;
 use crate::{dig, json};
 use dns_names_wire::error::DecodeError;
 use dns_names_wire::message::{EdnsError, MessageRef};
-use dnw_shell_base::{Refusal, Watch, contents, octets};
+use dnw_shell_base::{Given, Known, Refusal, Watch, contents, octets};
 use std::alloc::Global;
 use std::io::Read;
 use std::rt::Files;
@@ -29,11 +29,18 @@ pub(crate) enum Layout {
     Json,
 }
 
+/// The options of the command.
+const OPTIONS: [Known; 3] = [
+    Known::Flag("--lines"),
+    Known::Flag("--framed"),
+    Known::Flag("--json"),
+];
+
 /// What the words after the command ask for.
 #[derive(Clone, Copy)]
 struct Wanted<'w> {
     /// Hexadecimal digits, or else the name of a file.
-    source: Option<&'w str>,
+    source: &'w str,
     form: Form,
     layout: Layout,
 }
@@ -47,11 +54,8 @@ pub fn messages<E: Files, I: Read, P: Watch>(
     input: &mut I,
     watch: &mut P,
 ) -> Result<String, Refusal> {
-    let wanted = wanted_of(words)?;
-    let Some(source) = wanted.source else {
-        return Err(Refusal::Usage);
-    };
-    let given = given(env, alloc, source, input)?;
+    let wanted = wanted_of(alloc, words)?;
+    let given = given(env, alloc, wanted.source, input)?;
     match wanted.form {
         Form::One => shown(
             alloc,
@@ -72,24 +76,26 @@ pub fn messages<E: Files, I: Read, P: Watch>(
 }
 
 /// What the words ask for: one source, and each option at most once, in any order.
-fn wanted_of(words: &[String]) -> Result<Wanted<'_>, Refusal> {
-    let mut wanted = Wanted {
-        source: None,
-        form: Form::One,
-        layout: Layout::Dig,
+fn wanted_of(alloc: Global, words: &[String]) -> Result<Wanted<'_>, Refusal> {
+    let given = Given::of(alloc, words, &OPTIONS)?;
+    let form = match given.one_of(&["--lines", "--framed"])? {
+        Some("--lines") => Form::Lines,
+        Some(_) => Form::Framed,
+        None => Form::One,
     };
-    for word in words {
-        match word.as_str() {
-            "--json" if wanted.layout == Layout::Dig => wanted.layout = Layout::Json,
-            "--lines" if wanted.form == Form::One => wanted.form = Form::Lines,
-            "--framed" if wanted.form == Form::One => wanted.form = Form::Framed,
-            source if wanted.source.is_none() && !source.starts_with("--") => {
-                wanted.source = Some(source);
-            }
-            _ => return Err(Refusal::Usage),
-        }
-    }
-    Ok(wanted)
+    let layout = if given.has("--json") {
+        Layout::Json
+    } else {
+        Layout::Dig
+    };
+    let [source] = given.plain.as_slice() else {
+        return Err(given.wrong_count(alloc, &["HEX, FILE or -"]));
+    };
+    Ok(Wanted {
+        source: *source,
+        form,
+        layout,
+    })
 }
 
 /// The octets that a source has: a word of hexadecimal digits alone has itself, and another is the name of a file, or `-`.

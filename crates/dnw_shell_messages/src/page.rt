@@ -52,7 +52,7 @@ impl Page {
         }
         match octets(alloc, digits) {
             Ok(message) => self.add(alloc, shown(alloc, message.as_slice(), self.layout)),
-            Err(Refusal::Usage) => self.add(alloc, Err(Refusal::Digits)),
+            Err(Refusal::Digits) => self.add(alloc, Err(Refusal::Digits)),
             Err(refusal) => Err(refusal),
         }
     }

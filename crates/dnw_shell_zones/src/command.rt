@@ -5,73 +5,81 @@ use crate::shown::{Form, Wanted};
 use dns_names_wire::binary::BinDecodable;
 use dns_names_wire::data_text::parse_entry;
 use dns_names_wire::dnssec::zone_digest;
+use dns_names_wire::field_text::parse_u8;
 use dns_names_wire::name::Name;
 use dns_names_wire::rdata::Record;
 use dns_names_wire::record::RecordRef;
-use dnw_shell_base::{Refusal, Watch, contents};
+use dnw_shell_base::{Given, Known, Misuse, Refusal, Watch, contents};
 use std::alloc::Global;
 use std::io::Read;
 use std::rt::Files;
 
-/// Returns the records of a zone file, or of standard input if the file is `-`, as the options ask for. Names without a dot at their
-/// end are below the origin. If an entry is wrong, the lines of all errors are a refusal.
+/// The options of `dnw zone`.
+const OPTIONS: [Known; 5] = [
+    Known::Valued("--origin", "NAME"),
+    Known::Flag("--sort"),
+    Known::Flag("--relative"),
+    Known::Flag("--wire"),
+    Known::Flag("--check"),
+];
+
+/// Returns the records of the zone file that the words name, or of standard input if it is `-`, as the options ask for. Names without
+/// a dot at their end are below the origin. If an entry is wrong, the lines of all errors are a refusal.
 pub fn zone<E: Files, I: Read, P: Watch>(
     env: &E,
     alloc: Global,
-    file: &str,
-    origin: &str,
-    options: &[String],
+    words: &[String],
     input: &mut I,
     watch: &mut P,
 ) -> Result<String, Refusal> {
-    let wanted = wanted_of(options)?;
+    let given = Given::of(alloc, words, &OPTIONS)?;
+    let wanted = wanted_of(&given)?;
+    let [file] = given.plain.as_slice() else {
+        return Err(given.wrong_count(alloc, &["FILE or -"]));
+    };
+    let Some(origin) = given.value("--origin") else {
+        return Err(Misuse::Missing("--origin NAME").into());
+    };
     let zone = contents(env, alloc, file, input)?;
     listing(env, alloc, file, origin, wanted, zone, watch)
 }
 
-/// What the words after the origin of a zone ask for. Each is there at most once, and of `--relative`, `--wire` and `--check` only
-/// one.
-fn wanted_of(options: &[String]) -> Result<Wanted, Refusal> {
-    let mut wanted = Wanted {
-        form: Form::Lines,
-        is_sorted: false,
+/// What the options ask for: of `--relative`, `--wire` and `--check` only one is there.
+fn wanted_of(given: &Given<'_>) -> Result<Wanted, Refusal> {
+    let form = match given.one_of(&["--relative", "--wire", "--check"])? {
+        Some("--relative") => Form::Relative,
+        Some("--wire") => Form::Wire,
+        Some(_) => Form::Findings,
+        None => Form::Lines,
     };
-    for option in options {
-        match option.as_str() {
-            "--sort" if !wanted.is_sorted => wanted.is_sorted = true,
-            "--relative" if wanted.form == Form::Lines => {
-                wanted.form = Form::Relative;
-            }
-            "--wire" if wanted.form == Form::Lines => wanted.form = Form::Wire,
-            "--check" if wanted.form == Form::Lines => {
-                wanted.form = Form::Findings;
-            }
-            _ => return Err(Refusal::Usage),
-        }
-    }
-    Ok(wanted)
+    Ok(Wanted {
+        form,
+        is_sorted: given.has("--sort"),
+    })
 }
 
-/// Returns the digest that a ZONEMD record of a zone has (RFC 8976), by the hash algorithm, in hexadecimal digits. The zone is a
-/// zone file on standard input, whose names without a dot at their end are below the apex.
+/// Returns the digest that a ZONEMD record of a zone has (RFC 8976), by the hash algorithm, in hexadecimal digits. The words are the
+/// apex, the algorithm and the zone file, whose names without a dot at their end are below the apex.
 pub fn digest<E: Files, I: Read, P: Watch>(
     env: &E,
     alloc: Global,
-    apex: &str,
-    algorithm: &str,
+    words: &[String],
     input: &mut I,
     watch: &mut P,
 ) -> Result<String, Refusal> {
-    let mut zone = Vec::new(alloc);
-    input.read_to_end(&mut zone)?;
-    let Ok(algorithm) = algorithm.parse::<u8>() else {
-        return Err(Refusal::Usage);
+    let given = Given::of(alloc, words, &[])?;
+    let [apex, algorithm, file] = given.plain.as_slice() else {
+        return Err(given.wrong_count(alloc, &["APEX", "ALGORITHM", "FILE or -"]));
     };
+    let Ok(algorithm) = parse_u8(algorithm) else {
+        return Err(Misuse::wrong(alloc, "a number of at most 255", algorithm));
+    };
+    let zone = contents(env, alloc, file, input)?;
     let wanted = Wanted {
         form: Form::Lines,
         is_sorted: false,
     };
-    let lines = listing(env, alloc, "-", apex, wanted, zone, watch)?;
+    let lines = listing(env, alloc, file, apex, wanted, zone, watch)?;
     let apex = Name::from_text(alloc, apex, None)?;
     let mut records = Vec::new(alloc);
     for line in lines.lines() {
