@@ -195,6 +195,8 @@ static void reads_what_is_left_out(void)
           "8:1 e.ISI.EDU. 9 IN A 1.2.3.9\n");
     GIVES(ROOT, "$origin com.\n$ttl 1\nexample CH TXT \"a;b\" ; c\n$ORIGIN example\n@ TXT ( x\n ) y\nwww TXT \\\"\n",
           "3:1 example.com. 1 CH TXT \"a;b\"\n5:1 example.com. 1 CH TXT \"x\" \"y\"\n7:1 www.example.com. 1 CH TXT \"\\\"\"\n");
+    /* names have any octets (RFC 2181, section 11) */
+    GIVES(ROOT, "$TTL 1\n$ORIGIN \377.o.\na A 1.2.3.4\n", "3:1 a.\\255.o. 1 IN A 1.2.3.4\n");
     GIVES(ROOT, "$TTL 1\n. NULL \\# 3 ( 00\n0102\n)\n. TYPE65280 \\# 0\n", "2:1 . 1 IN NULL \\# 3 000102\n5:1 . 1 IN TYPE65280 \\# 0\n");
     GIVES(ROOT, "", "");
     GIVES(ROOT, "\n ; c\n\t\n(\n)\n;", "");

@@ -446,11 +446,23 @@ impl Name {
     ) -> Result<Self, NameTextError>
         ensures { result ≡ name_of_text (origin_labels (option_copied origin.entry)) text.now }
     {
+        Name::from_text_bytes(alloc, text.as_bytes(), origin)
+    }
+
+    /// Creates a name from the octets of its text, as `from_text` does: they need not be UTF-8, since a name may have any octets (RFC
+    /// 2181, section 11).
+    pub fn from_text_bytes(
+        alloc: Global,
+        text: &[u8],
+        origin: Option<&Name>,
+    ) -> Result<Self, NameTextError>
+        ensures { result ≡ name_of_text (origin_labels (option_copied origin.entry)) text.now }
+    {
         let labels = match origin {
             Some(name) => Some(name.wire_labels()),
             None => None,
         };
-        let name = reading::read(alloc, text.as_bytes(), labels)?;
+        let name = reading::read(alloc, text, labels)?;
         Ok(Name {
             is_fqdn: name.is_fqdn,
             form: name.form,

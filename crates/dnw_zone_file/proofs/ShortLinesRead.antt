@@ -38,7 +38,7 @@ use Rattle.dnw_zone_file.specs.ShortLines.{IsShortOwner, short_head, short_rest,
 use Rattle.dnw_zone_file.proofs.AnyLines.{IsLine}
 use Rattle.dnw_zone_file.proofs.Kept.{Keeps, keeps_both, keeps_name, keeps_plain, keeps_spaced}
 use Rattle.dnw_zone_file.proofs.LinesRead.{by_owner, owner_only}
-use Rattle.dnw_zone_file.proofs.ShortNames.{IsOwnerWord, all_octets, full_word, name_utf8, short_word, word_owner}
+use Rattle.dnw_zone_file.proofs.ShortNames.{IsOwnerWord, all_octets, full_word, short_word, word_owner}
 use Rattle.dnw_zone_file.proofs.WrittenLines.{IsPrinted, begins_owner, class_plain, kind_of, no_quote, plain_next, spaced_end, zone_head}
 use Rattle.dnw_zone_lexer.specs.Times.{time_seconds}
 use Rattle.dnw_zone_record.specs.RecordLines.{spaced, after_next_word, next_word, IsClassWord, IsTtlWord, IsTypeWord, LacksTtlWord}
@@ -240,7 +240,7 @@ origin_entry before labels are h =
     let first : word line ≡ codes "$ORIGIN" = plain_word (codes "$ORIGIN") left refl refl in
     let after : after_word line ≡ left = plain_after (codes "$ORIGIN") left refl refl in
     let word_is : IsNameWord before.origin name (record { is_fqdn = true; labels = labels }) =
-    (no_quote name begins, name_utf8 labels h, full_names (Some before.origin.labels) labels are (all_octets labels h)) in
+    (no_quote name begins, full_names (Some before.origin.labels) labels are (all_octets labels h)) in
     let only : IsOnlyName before.origin left (record { is_fqdn = true; labels = labels }) =
     (subst (λ (w : List ℕ). IsNameWord before.origin w (record { is_fqdn = true; labels = labels })) (sym next) word_is, ap after_spaces none) in
     let moved = subst (λ (xs : List ℕ). IsOnlyName before.origin xs (record { is_fqdn = true; labels = labels })) (sym after) only in

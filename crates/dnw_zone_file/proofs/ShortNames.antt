@@ -2,9 +2,6 @@
 use Rattle.std.proofs.Common.{◌≡◌, ◌≢◌, ℕ, suc, ◌+◌, ◌-◌, ◌/◌, ◌%◌, ◌<◌, ◌≤◌, Bool, true, false, ◌&&◌, List, [], ◌∷◌, ◌++◌, length, refl, sym, ap, ◌∙◌, subst, arith, append_assoc, append-nil, length-append, inl, inr}
 use Rattle.std.specs.Prelude.{nat_le, nat_lt, not, if◌then◌else◌, flat_map, Some, None, Ok, Err}
 use Rattle.std.specs.List.{AllByRecursion}
-use Rattle.std.specs.Str.{IsAscii, IsUtf8}
-use Rattle.std.proofs.lemmas.Str.{IsAscii-append, IsUtf8-from_ascii}
-use Rattle.std.proofs.lemmas.Str.Ascii.{IsAscii-nil, IsAscii-cons}
 use Rattle.std.proofs.lemmas.Bool.{cases_Bool}
 use Rattle.std.proofs.lemmas.List.{take_at}
 use Rattle.std.proofs.lemmas.List.Sums.{sum_by-append}
@@ -196,37 +193,6 @@ pub word_owner : (origin : NameValue) (labels : List (List ℕ)) (w : List ℕ) 
 word_owner origin labels w is =
     let begins : begins_owner w ≡ true = ap begins_owner (sym (append-nil w)) ∙ is.begins [] in
     ap (λ (b : Bool). if b then None else named_at (Some origin) w) (no_quote w begins) ∙ is.named
-
--- ---- a name is UTF-8
-
-octet_ascii : (o : ℕ) → o < 256 → IsAscii (name_octet o)
-octet_ascii o fits = elim (cases_Bool (is_special o)) [
-  | inl special ↦
-      let small : o < 128 = grind arith in
-      rw special (IsAscii-cons 92 (o ∷ []) (omega arith) (IsAscii-cons o [] small IsAscii-nil))
-  | inr other ↦ elim (cases_Bool (nat_le 33 o && nat_le o 126)) [
-    | inl printable ↦ let small : o < 128 = grind arith in rw (other, printable) (IsAscii-cons o [] small IsAscii-nil)
-    | inr not ↦
-        rw (other, not)
-        (IsAscii-cons 92 ((48 + o / 100) ∷ (48 + o / 10 % 10) ∷ (48 + o % 10) ∷ []) (omega arith)
-        (IsAscii-cons (48 + o / 100) ((48 + o / 10 % 10) ∷ (48 + o % 10) ∷ []) (omega (arith, fits))
-        (IsAscii-cons (48 + o / 10 % 10) ((48 + o % 10) ∷ []) (omega arith) (IsAscii-cons (48 + o % 10) [] (omega arith) IsAscii-nil))))
-  ]
-]
-
-label_ascii : (label : List ℕ) → IsOctets label → IsAscii (label_octets label)
-label_ascii [] h = IsAscii-nil
-label_ascii (o ∷ label) h = IsAscii-append (name_octet o) (label_octets label) (octet_ascii o (h 0)) (label_ascii label (λ i. h (suc i)))
-
-labels_ascii : (labels : List (List ℕ)) → AllByRecursion IsOctets labels → IsAscii (labels_text labels)
-labels_ascii [] h = IsAscii-nil
-labels_ascii (label ∷ labels) h =
-    IsAscii-append (label_octets label ++ 46 ∷ []) (labels_text labels)
-    (IsAscii-append (label_octets label) (46 ∷ []) (label_ascii label h.0) (IsAscii-cons 46 [] (omega arith) IsAscii-nil)) (labels_ascii labels h.1)
-
-pub name_utf8 : (labels : List (List ℕ)) → AllByRecursion IsOctets labels → IsUtf8 (full_name_text labels)
-name_utf8 [] h = IsUtf8-from_ascii (46 ∷ []) (IsAscii-cons 46 [] (omega arith) IsAscii-nil)
-name_utf8 (label ∷ labels) h = IsUtf8-from_ascii (labels_text (label ∷ labels)) (labels_ascii (label ∷ labels) h)
 
 -- ---- a name is cut
 

@@ -2,7 +2,6 @@
 -- in which words are parted by spaces; comments and parentheses are spaces there. An entry that begins with a space has the owner of
 -- the record before it.
 use Rattle.std.specs.Prelude.{◌≡◌, ◌≢◌, ◌⊎◌, ◌-◌, ◌==◌, ◌||◌, Bool, false, ℕ, List, [], ◌∷◌, length, if◌then◌else◌, Option, Some, None, Ok}
-use Rattle.std.specs.Str.{IsUtf8}
 use Rattle.dnw_base.specs.Names.{NameValue}
 use Rattle.dnw_base.specs.declared.dns_class.DNSClass.{DNSClass}
 use Rattle.dnw_base.specs.declared.record_type.RecordType.{RecordType}
@@ -70,7 +69,7 @@ FailsZoneRecord before len left error =
 
 -- A word is a name, completed by the origin. A quoted string is none.
 abbrev pub IsNameWord : NameValue → List ℕ → NameValue → Type 0
-IsNameWord origin first name = (begins_with 34 first ≡ false) × IsUtf8 first × (name_of_text (Some origin.labels) first ≡ Ok name)
+IsNameWord origin first name = (begins_with 34 first ≡ false) × (name_of_text (Some origin.labels) first ≡ Ok name)
 
 abbrev pub LacksNameWord : NameValue → List ℕ → Type 0
 LacksNameWord origin first = (name : NameValue) → ¬ (IsNameWord origin first name)

@@ -20,7 +20,6 @@ use dnw_zone_data::name::fill_name;
 use dnw_zone_data::words::{after_spaces, split_word};
 use dnw_zone_record::record_line::{data_of, next_word, ttl_of};
 use std::alloc::Global;
-use std::str;
 
 /// A record of a zone file. Its owner is the context's, after the entry.
 #[derive(Drop)]
@@ -427,10 +426,7 @@ fn name_at(alloc: Global, origin: &Name, word: &[u8]) -> Option<Name>
     if begins_with(word, b'"') {
         return None;
     }
-    let Ok(text) = str::from_utf8(word) else {
-        return None;
-    };
-    match Name::from_text(alloc, text, Some(origin)) {
+    match Name::from_text_bytes(alloc, word, Some(origin)) {
         Ok(name) => Some(name),
         Err(_) => None,
     }

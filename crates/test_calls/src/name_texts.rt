@@ -32,6 +32,13 @@ fn texts_of_names_come_back(rt: HostRuntime) -> Result<(), Fail> {
 }
 
 #[test]
+fn a_text_may_have_octets_that_are_no_utf8(rt: HostRuntime) -> Result<(), Fail> {
+    let name = Name::from_text_bytes(rt.alloc(), b"\xff.x.", None).map_err(|_| "a name")?;
+    assert_eq!(rt; name.to_text(rt.alloc())?.as_str(), "\\255.x.");
+    Ok(())
+}
+
+#[test]
 fn an_origin_completes_a_text(rt: HostRuntime) -> Result<(), Fail> {
     let origin = Name::from_text(rt.alloc(), "example.", None).map_err(|_| "a name")?;
     for (text, whole) in [("a", "a.example."), ("@", "example."), ("a.", "a.")] {
