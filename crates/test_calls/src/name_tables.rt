@@ -75,5 +75,5 @@ fn names_out_of_order_are_refused(rt: HostRuntime) -> Result<(), Fail> {
 #[test]
 fn names_take_these_bytes(rt: HostRuntime) {
     assert_eq!(rt; size_of::<Name>(), 272);
-    assert_eq!(rt; size_of::<NameRef<'_>>(), 48);
+    assert_eq!(rt; size_of::<NameRef<'_>>(), 56);
 }
