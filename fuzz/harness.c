@@ -3,7 +3,7 @@
 
 #include <sys/mman.h>
 
-enum { PAGE = 4096, ROOM = 72 * 1024, FILLED = 64 };
+enum { PAGE = 4096, ROOM = 256 * 1024, FILLED = 64 };
 
 static size_t number_to_refuse;
 static bool refused;
@@ -88,6 +88,14 @@ bool holds(const uint8_t *buffer, size_t size, const void *bytes, size_t len)
 bool untouched(const uint8_t *buffer, size_t size)
 {
     return is_filled(buffer - FILLED, size + FILLED);
+}
+
+/* The fuzzer sets these to zero before each input, and looks at them after it. */
+static uint8_t seen[1 << 15] __attribute__((section("__libfuzzer_extra_counters")));
+
+void saw(size_t number)
+{
+    seen[number % sizeof seen] = 1;
 }
 
 bool cut_in_three(const uint8_t *data, size_t size, struct part parts[3])

@@ -41,6 +41,10 @@ void refuse(size_t number);
 /* Returns whether an allocation was refused since, and stops that. */
 bool was_refused(void);
 
+/* The library has no counters of the fuzzer's. So an input is kept too for which a number is seen that no input before gave: one of what
+   a call returned. */
+void saw(size_t number);
+
 /* A part of an input. */
 struct part {
     const uint8_t *bytes;

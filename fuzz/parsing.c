@@ -1,93 +1,22 @@
 /* Parses lines of master files and the data of records, and compares the answers with a model: a line is a name, words that
-   other functions read, and data. What is parsed is printed, and what is printed is parsed as the same. The first octet of an
-   input is the length of the origin, which is next; then come two octets of a type, and the text. */
-#include "harness.h"
+   other functions read, and data, in the form of any data or in the type's own (data_reading.c). What is parsed is printed, and what
+   is printed is parsed as the same. The first octet of an input is the length of the origin, which is next; then come two octets of
+   a type, and the text. */
+#include "data_reading.h"
+#include "line_reading.h"
 
 enum { MOST = 32 * 1024, DATA = 65535 };
 
 static struct room input, origins, output;
 
-static bool is_white(uint8_t c)
-{
-    return c == ' ' || c == '\t' || c == '\r' || c == '\n';
-}
-
-/* Puts the first entry of a text into a line: a space for what is of comments and parentheses, and for the ends of lines in these. Nothing
-   but white space may be after it. */
+/* Puts the one line of a text, after which nothing but white space may be. */
 static uint32_t model_entry(struct part text, uint8_t *line, size_t *len)
 {
-    bool is_quoted = false, is_escaped = false, is_comment = false, is_grouped = false;
-    size_t at = 0;
-    for (; at < text.len; at++) {
-        uint8_t c = text.bytes[at];
-        bool is_end = c == '\n' || c == '\r', is_kept = !is_comment;
-        if (is_comment) {
-            if (c == '\n' && !is_grouped)
-                break;
-            is_comment = c != '\n';
-        } else if (is_escaped) {
-            if (is_end && !is_quoted)
-                return DNW_TEXT_CUT;
-            is_escaped = false;
-        } else if (is_quoted) {
-            if (c == '\n')
-                return DNW_UNCLOSED_QUOTE;
-            is_quoted = c != '"';
-            is_escaped = c == '\\';
-        } else if (is_end && !is_grouped) {
-            break;
-        } else if (c == '(' || c == ')') {
-            if (is_grouped == (c == '('))
-                return DNW_ILLEGAL_CHARACTER;
-            is_grouped = c == '(';
-            is_kept = false;
-        } else {
-            is_comment = c == ';';
-            is_quoted = c == '"';
-            is_escaped = c == '\\';
-            is_kept = !is_end && !is_comment;
-        }
-        line[at] = is_kept ? c : ' ';
-    }
-    *len = at;
-    if (at == text.len && (is_quoted || is_escaped))
-        return is_quoted ? DNW_UNCLOSED_QUOTE : DNW_TEXT_CUT;
-    if (at == text.len && is_grouped)
-        return DNW_UNCLOSED_LIST;
-    for (; at < text.len; at++)
-        if (!is_white(text.bytes[at]))
+    uint32_t failure = model_scan(text, line, len);
+    for (size_t at = *len; failure == DNW_DONE && at < text.len; at++)
+        if (!is_blank(text.bytes[at]))
             return DNW_BAD_DATA;
-    return DNW_DONE;
-}
-
-/* The word at the front of a line: in quotes, or up to white space or a quote that is not after a backslash. */
-static struct part cut_word(struct part *text)
-{
-    struct part word = {text->bytes, 0};
-    bool is_quoted = text->len > 0 && text->bytes[0] == '"', is_escaped = false;
-    word.len = is_quoted ? 1 : 0;
-    for (; word.len < text->len; word.len++) {
-        uint8_t c = word.bytes[word.len];
-        if (!is_escaped && c == '"' && is_quoted) {
-            word.len++;
-            break;
-        }
-        if (!is_escaped && !is_quoted && (is_white(c) || c == '"'))
-            break;
-        is_escaped = c == '\\' && !is_escaped;
-    }
-    text->bytes += word.len;
-    text->len -= word.len;
-    return word;
-}
-
-static struct part next_word(struct part *text)
-{
-    while (text->len > 0 && is_white(text->bytes[0])) {
-        text->bytes++;
-        text->len--;
-    }
-    return cut_word(text);
+    return failure;
 }
 
 static void put_number(uint8_t *out, uint32_t number, size_t count)
@@ -96,53 +25,17 @@ static void put_number(uint8_t *out, uint32_t number, size_t count)
         out[i] = (uint8_t)(number >> 8 * (count - 1 - i));
 }
 
-/* A time to live: what dnw_ttl_parse takes, but no number without a unit after others. */
-static bool is_ttl(struct part word, uint32_t *ttl)
-{
-    bool has_units = false;
-    for (size_t at = 0; at < word.len; at++)
-        has_units |= word.bytes[at] > '9';
-    if (has_units && word.bytes[word.len - 1] <= '9')
-        return false;
-    return dnw_ttl_parse(word.bytes, word.len, ttl) == DNW_DONE;
-}
-
-/* Whether a word is `*`: any type or class in a question, and none of a record. */
-static bool is_any(struct part word)
-{
-    return word.len == 1 && word.bytes[0] == '*';
-}
-
-static bool is_class(struct part word, uint16_t *class)
-{
-    return !is_any(word) && dnw_class_parse(word.bytes, word.len, class) == DNW_DONE;
-}
-
 /* What is between the owner and the data: type, class and time to live, as a record has them. */
-static uint32_t head_of(struct part *text, uint8_t head[8], uint16_t *type)
+static uint32_t head_of(struct reader *r, uint8_t head[8], uint16_t *type)
 {
-    uint32_t ttl;
-    uint16_t class = DNW_CLASS_IN;
-    struct part word = next_word(text);
-    bool is_first = is_ttl(word, &ttl);
-    struct part before = *text;
-    if (is_first) {
-        word = next_word(text);
-        if (!is_class(word, &class))
-            *text = before;
-    } else {
-        if (!is_class(word, &class))
-            return DNW_BAD_TIME;
-        word = next_word(text);
-        if (!is_ttl(word, &ttl))
-            return DNW_BAD_TIME;
-    }
-    word = next_word(text);
-    if (is_any(word) || dnw_type_parse(word.bytes, word.len, type) != DNW_DONE)
+    struct head of = take_head(r);
+    if (!of.has_ttl)
+        return DNW_BAD_TIME;
+    if (!take_code(r, type))
         return DNW_UNKNOWN_TEXT;
     put_number(head, *type, 2);
-    put_number(head + 2, class, 2);
-    put_number(head + 4, ttl, 4);
+    put_number(head + 2, of.has_class ? of.class : DNW_CLASS_IN, 2);
+    put_number(head + 4, of.ttl, 4);
     return DNW_DONE;
 }
 
@@ -161,17 +54,16 @@ static uint32_t model_line(struct part text, struct part origin, size_t *len)
     failure = model_entry(text, line, &line_len);
     if (failure != DNW_DONE)
         return failure;
-    text = (struct part){line, line_len};
-    struct part word = cut_word(&text);
-    failure = dnw_data_parse(DNW_CLASS_IN, DNW_TYPE_CNAME, word.bytes, word.len, origin.bytes, origin.len, wanted, DNW_FORM_SIZE, len);
-    if (failure != DNW_DONE || word.len == 0)
+    struct reader r = {{line, line_len}, origin, wanted, 0};
+    if (line_len == 0 || is_blank(line[0]) || !take_name(&r))
         return DNW_BAD_TEXT;
-    failure = head_of(&text, wanted + *len, &type);
+    *len = r.len;
+    failure = head_of(&r, wanted + *len, &type);
     if (failure != DNW_DONE)
         return failure;
     size_t data_len;
     uint16_t class = (uint16_t)model_number(wanted + *len + 2, 2);
-    failure = dnw_data_parse(class, type, text.bytes, text.len, origin.bytes, origin.len, wanted + *len + 10, DATA, &data_len);
+    failure = dnw_data_parse(class, type, r.left.bytes, r.left.len, origin.bytes, origin.len, wanted + *len + 10, DATA, &data_len);
     if (failure != DNW_DONE)
         return failure;
     put_number(wanted + *len + 8, (uint32_t)data_len, 2);
@@ -203,7 +95,7 @@ static void is_fault_of(struct dnw_text_fault fault, struct part text, bool is_r
 
 static void parses_line(struct part text, struct part origin)
 {
-    if (text.len > MOST || (text.len >= 2 && text.bytes[0] == '\\' && text.bytes[1] == '#'))
+    if (text.len > MOST)
         return;
     size_t model_len, len = 7;
     uint32_t answer = model_line(text, origin, &model_len);
@@ -251,7 +143,8 @@ static void are_plain(uint16_t type, const uint8_t *data, size_t len)
 
 static void parses_data(uint16_t type, struct part text, struct part origin)
 {
-    size_t len = 7;
+    static uint8_t read[DATA];
+    size_t len = 7, read_len = 0;
     uint8_t *data = clear(&output, MOST);
     uint32_t answer = dnw_data_parse(DNW_CLASS_IN, type, text.bytes, text.len, origin.bytes, origin.len, data, MOST, &len);
     struct model_name name;
@@ -259,13 +152,17 @@ static void parses_data(uint16_t type, struct part text, struct part origin)
     CHECK(failure != DNW_DONE ? answer == failure : answer == DNW_DONE || answer == DNW_BAD_DATA);
     struct dnw_text_fault fault;
     CHECK(dnw_data_text_fault(DNW_CLASS_IN, type, text.bytes, text.len, origin.bytes, origin.len, &fault) == failure);
-    if (failure == DNW_DONE)
+    if (failure == DNW_DONE) {
         is_fault_of(fault, text, answer == DNW_DONE);
+        saw(128 * (size_t)type + fault.reason);
+    }
+    CHECK((failure == DNW_DONE && model_data_text(type, text, origin, read, &read_len)) == (answer == DNW_DONE));
     if (answer != DNW_DONE) {
         CHECK(untouched(data, MOST) && len == 7);
         return;
     }
     CHECK(holds(data, MOST, data, len));
+    CHECK(len == read_len && memcmp(data, read, len) == 0);
     are_plain(type, data, len);
     wanted[0] = 0;
     put_number(wanted + 1, type, 2);

@@ -124,6 +124,8 @@ def inputs(words):
         text = " ".join(rest[1:]).encode()
         yield "parsing", b"\0" + struct.pack(">H", int(rest[0])) + text
         yield "parsing", b"\3\1a\0" + struct.pack(">H", int(rest[0])) + b"@ 1h CH TYPE" + rest[0].encode() + b" " + text
+        yield "parsing", b"\3\1a\0" + struct.pack(">H", int(rest[0])) + b"b 1 IN TYPE" + rest[0].encode() + b" ( " + text + b" ;\n )"
+        yield "zone_files", b"$TTL 1h\nb TYPE" + rest[0].encode() + b" " + text + b"\n @ CH ( TYPE" + rest[0].encode() + b"\n " + text + b" ; c\n)"
     elif kind in ("text", "print"):
         yield "texts", octets(rest[-1])
     elif kind in ("encode", "script"):
@@ -159,6 +161,8 @@ def inputs(words):
         yield "reverse", b"".join(bytes([len(label)]) + label for label in labels) + b"\0"
     elif kind in ("time", "lex"):
         yield "codes" if kind == "time" else "tokens", octets(rest[-1])
+        if kind == "lex":
+            yield "zone_files", octets(rest[-1])
 
 
 def replies():
@@ -171,9 +175,69 @@ def replies():
         yield "printing", octets(whole)
 
 
+# Texts of data at the limits of what they may be, by their types.
+AT_LIMITS = {
+    6: ["a. b. 1 2s 3m 4h 5d", "a. b. 1 1w1 1 1 1", "a. b. 1h 1 1 1 1", "a. b. 4294967295 7101w 1 1 1"],
+    22: ["0x", "0X00", "0x0.0", "0x0"],
+    29: [
+        "90 N 180 E 0", "90 0 0.001 N 180 E 0", "90 S 180 0 0.001 W 0m", "0 59 59.999 S 0 60 W 1", "89 59 60 N 1 E .5m", "1 N 2 E -100000.01m",
+        "1 2 N 3 4 5. W -100000.00m 0 .01 90000000.00m", "1 N 2 E 42849672.95m 1m 2m 3m", "1 N 2 E 42849672.96", "1 N 2 E 1 90000000.01m",
+        "1 N 2 E 1 -0m -.01m", "1 N 2 E +1m 1 2 3 4",
+    ],
+    37: ["PKIX 0 RSAMD5 AA==", "OID 65535 254 AA=="],
+    42: ["1:1.2.3.4/33", "!1:0.0.0.0/0", "2:::/129", "3:1/1", "1:1.2.3.4", "01:1.2.3.4/032"],
+    45: ["10 0 2 a. AA==", "10 4 2 . AA==", "10 4 2 192.0.2.1 AA==", "10 4 2 ::1 AA==", "256 0 2 ."],
+    46: ["A 5 3 1 20250101240000 20240229235959 1 a. AA==", "A 5 3 1 20230229000000 21060207062816 1 a. AA==", "* 5 3 1 1 4294967295 1 a. AA=="],
+    50: ["1 0 0 - 0g", "1 0 0 - 0h", "1 0 0 00 0 A"],
+    55: ["2 00 = a.", "2 00 AA== a. b.", "2 - AA=="],
+    64: ["1 . key01=a", "1 . mandatory=port", "1 . port=65536", "1 . alpn=a,,b", "1 . key3= key4", "1 . no-default-alpn=\"\" key2"],
+    104: ["1 1:2:3:4", "1 00000:0:0:0", "65536 0:0:0:0", "1 :0:0:0"],
+    260: ["1 0 0 .", "1 2 0 .", "1 1 4 .", "1 1 3 a."],
+    264: ["18446744073709551615", "18446744073709551616"],
+}
+
+# Data that have no text of their own, or only just one, by their types.
+OCTETS_AT_LIMITS = {
+    22: ["", "00"],
+    29: ["0133161389172dd070be15f000988d20", "01"],
+    42: ["00030801ff", "0001200401020304", "0002808020010db8000000000000000000000001"],
+    45: ["0a000201", "0a000200", "0a030200"],
+    47: ["000001400002400000", "00000001400001000140"],
+    50: ["01000000000000", "010000000101010f"],
+    55: ["00020001ff", "01020000ff", "01020001aabb", "01020001aabb00016100"],
+    64: ["000100000000020003", "0001000000000200030003000200350004000400000000", "00010000010003022c5c", "0001000001000100", "00010000030001ff"],
+    257: ["0003612d6261", "000061", "000161"],
+}
+
+
+def limits():
+    """Data at their limits, which no mutation finds soon: texts, and locations (RFC 1876) as octets."""
+    for code, texts in AT_LIMITS.items():
+        for text in texts:
+            yield "parsing", b"\0" + struct.pack(">H", code) + text.encode()
+            yield "zone_files", b"a. 1 TYPE" + str(code).encode() + b" " + text.encode()
+    for code, data in OCTETS_AT_LIMITS.items():
+        for whole in data:
+            yield "printing", struct.pack(">H", code) + octets(whole)
+    middle, pole, lowest = 1 << 31, 90 * 3600000, 10000000
+    for latitude, longitude in itertools.product([pole, pole + 1, -pole, -pole - 1, -1], [2 * pole, 2 * pole + 1, -2 * pole, -2 * pole - 1, 0]):
+        for sizes in b"\x12\x16\x13", b"\x00\x10\x99", b"\x01\x9a\xa0", b"\x11\x09\x90":
+            altitude = lowest + (latitude + longitude) % 300 - 150
+            whole = struct.pack(">B3sIII", 0, sizes, middle + latitude, middle + longitude, altitude)
+            yield "printing", struct.pack(">H", 29) + whole
+
+
+def zones():
+    """The zone files that are there, and the forms of control entries."""
+    for file in [*DIFF.glob("zones/*"), *DIFF.glob("included/**/*.zone"), *(DIFF.parent / "examples").glob("zone.*")]:
+        yield "zone_files", file.read_bytes()
+    for entry in b"$TTL 1w2d\n", b"$ORIGIN a.b.\n", b"$INCLUDE sub/x.zone c.d. ; e\n", b'$INCLUDE "a b"\n':
+        yield "zone_files", entry + b"@ 1 IN A 192.0.2.1\n  TXT ( a\n \"b c\" )\n" + entry
+
+
 def main():
     folder = pathlib.Path(sys.argv[1])
-    for harness, octets_of_it in itertools.chain(*map(inputs, requests()), replies(), responses()):
+    for harness, octets_of_it in itertools.chain(*map(inputs, requests()), replies(), responses(), limits(), zones()):
         place = folder / harness
         place.mkdir(parents=True, exist_ok=True)
         (place / hashlib.sha1(octets_of_it).hexdigest()).write_bytes(octets_of_it)

@@ -1,8 +1,8 @@
-/* Reads the input as a zone file: whole, in parts that are cut where its first octets say, and octet by octet. The entries are the
-   same, each at its place, and take as many octets as there are; records are read by dnw_record_read, and printed and parsed as
-   themselves. A state that is spoiled makes a call fail, or read on, and nothing outside the buffers is touched. Without room or
-   memory nothing is stored. */
-#include "harness.h"
+/* Reads the input as a zone file: whole, in parts that are cut where its first octets say, and octet by octet. The entries are those
+   of the model (zone_reading.c), are the same in parts, each at its place, and take as many octets as there are; records are read by
+   dnw_record_read, and printed and parsed as themselves. A state that is spoiled makes a call fail, or read on, and nothing outside
+   the buffers is touched. Without room or memory nothing is stored. */
+#include "zone_reading.h"
 
 static struct room input, part, octets, fault;
 
@@ -33,6 +33,43 @@ static void add_entry(struct entries *to, const struct dnw_zone_entry *entry, co
     add(to, fields, sizeof fields);
     add(to, bytes, entry->len);
     to->count += 1;
+}
+
+/* What entries there are, each by its type or its fault, and which come after one another. */
+static void saw_entry(const struct dnw_zone_entry *entry, size_t last)
+{
+    size_t what = 128 * entry->kind + (entry->kind == DNW_ZONE_ERROR ? entry->fault.reason : 0);
+    saw(what);
+    saw(1024 + (16 * entry->kind + last) % 1024);
+    saw(2048 + 16 * entry->fault.reason + entry->fault.field % 16);
+    saw(4096 + entry->record_type % 4096);
+    saw(8192 + entry->record_class % 512);
+}
+
+/* The entry is that of the model, and so is what is known after it. */
+static void is_that_of_model(struct part text, const struct dnw_zone *before, const struct dnw_zone *after, const struct dnw_zone_entry *entry,
+                             const uint8_t *bytes)
+{
+    static struct model_zone_entry wanted;
+    struct dnw_zone zone = *before;
+    model_zone_next(text, &zone, &wanted);
+    if (wanted.kind == MODEL_OPEN) {
+        CHECK(entry->kind == DNW_ZONE_NOTHING || entry->kind == DNW_ZONE_INCLUDE || entry->kind == DNW_ZONE_ERROR);
+        return;
+    }
+    CHECK(entry->kind == wanted.kind);
+    CHECK(zone.origin_len == after->origin_len && memcmp(zone.origin, after->origin, zone.origin_len) == 0);
+    CHECK(zone.owner_len == after->owner_len && memcmp(zone.owner, after->owner, zone.owner_len) == 0);
+    CHECK(zone.has_default_ttl == after->has_default_ttl && (!zone.has_default_ttl || zone.default_ttl == after->default_ttl));
+    CHECK(zone.has_last_ttl == after->has_last_ttl && (!zone.has_last_ttl || zone.last_ttl == after->last_ttl));
+    CHECK(zone.record_class == after->record_class);
+    if (entry->kind == DNW_ZONE_ERROR)
+        return;
+    CHECK(entry->used == wanted.used);
+    if (entry->kind == DNW_ZONE_RECORD || entry->kind == DNW_ZONE_INCLUDE)
+        CHECK(entry->len == wanted.len && entry->name_len == wanted.name_len && memcmp(bytes, wanted.octets, wanted.len) == 0);
+    if (entry->kind == DNW_ZONE_INCLUDE)
+        CHECK(entry->data_len == wanted.len - wanted.name_len);
 }
 
 /* The place of an offset, from 1, counted from the start of the file. */
@@ -112,7 +149,7 @@ static void read(const uint8_t *text, size_t len, size_t first, size_t step, str
 {
     static const uint8_t origin[] = "\001o\000";
     struct dnw_zone zone;
-    size_t at = 0, there = first < len ? first : len;
+    size_t at = 0, there = first < len ? first : len, last = 0;
     to->len = to->count = 0;
     CHECK(dnw_zone_begin(origin, sizeof origin - 1, &zone) == DNW_DONE);
     for (;;) {
@@ -132,6 +169,11 @@ static void read(const uint8_t *text, size_t len, size_t first, size_t step, str
             return;
         }
         CHECK(entry.used > 0);
+        if (to == &whole) {
+            is_that_of_model((struct part){left, there - at}, &before, &zone, &entry, bytes);
+            saw_entry(&entry, last);
+        }
+        last = entry.kind;
         add_entry(to, &entry, bytes);
         check_place(text, at + entry.fault.offset, &entry);
         if (entry.kind == DNW_ZONE_RECORD)
