@@ -67,6 +67,8 @@ int main(void)
     EXPECT(dnw_read_message(whole, sizeof whole - 1, 0) == 0);
     EXPECT(dnw_read_message(whole, sizeof whole - 1, 2) == 2 * all);
     EXPECT(dnw_read_message(whole, sizeof whole - 2, 1) == (uint64_t)1 << 40);
+    EXPECT(dnw_walk_message(whole, sizeof whole - 1, 2) == 2 * ((3 + 1 + 1 + 4) + (3 + 2 + 2 + 5)));
+    EXPECT(dnw_walk_message(whole, sizeof whole - 2, 1) == (uint64_t)1 << 40);
     EXPECT(dnw_read_fields(whole, sizeof whole - 1, 2) == 2 * (258 + ba));
     EXPECT(dnw_read_fields(whole, sizeof whole - 2, 1) == 0);
     EXPECT(dnw_write_message(whole, sizeof whole - 1, 512, 2) == 2 * (sizeof whole - 1));

@@ -92,6 +92,11 @@ uint64_t dnw_emit_records(const uint8_t *message, size_t len, uint64_t count);
    nothing. It does not allocate. */
 uint64_t dnw_read_message(const uint8_t *message, size_t len, uint64_t count);
 
+/* Checks a whole message, and walks over its records but an OPT record: the sizes of the wire forms of their owners, their types,
+   their times to live, and the octets of the values of their data's fields, of names those of their wire forms. It does not
+   allocate. */
+uint64_t dnw_walk_message(const uint8_t *message, size_t len, uint64_t count);
+
 /* Reads the data of the records of a message, whose owners were read before, by their fields: what dnw_read_message adds for
    these. If the message cannot be read, the result is 0. */
 uint64_t dnw_read_fields(const uint8_t *message, size_t len, uint64_t count);

@@ -335,6 +335,21 @@ pub extern "C" fn dnw_read_message(msg: &[u8], count: u64) -> u64
     sum
 }
 
+/// Reads a whole message, and walks over its records but `OPT`: the lengths of owners and data, types and times to live.
+#[unsafe(no_mangle)]
+pub extern "C" fn dnw_walk_message(msg: &[u8], count: u64) -> u64
+    ensures idle { count ≡ 0 → result ≡ 0 }
+{
+    let mut sum = 0u64;
+    for _round in 0..count {
+        sum = sum.wrapping_add(match messages::walk_whole(msg) {
+            Ok(size) => size,
+            Err(_) => FAILURE,
+        });
+    }
+    sum
+}
+
 /// Reads the fields of the data of a message's records, whose owners are passed before: as `dnw_read_message` adds them up. If
 /// the message can't be read, the result is 0.
 #[unsafe(no_mangle)]

@@ -61,6 +61,65 @@ fn record_size(record: &RecordRef<'_>) -> u64 {
         .wrapping_add(fields_size(&mut record.fields()))
 }
 
+/// Reads a message, and walks over its records but `OPT`: the lengths of their owners and of their data, both with names whole,
+/// their types and their times to live.
+pub(crate) fn walk_whole(msg: &[u8]) -> Result<u64, MessageError> {
+    let message = MessageRef::read(msg)?;
+    Ok(
+        walk_records(message.answers())
+            .wrapping_add(walk_records(message.authorities()))
+            .wrapping_add(walk_records(message.additionals())),
+    )
+}
+
+fn walk_records(records: Records<'_>) -> u64 {
+    let mut sum = 0u64;
+    for record in records {
+        if matches!(record.record_type(), RecordType::OPT) {
+            continue;
+        }
+        sum = sum
+            .wrapping_add(record.owner().encoded_len() as u64)
+            .wrapping_add(u64::from(record.record_type().code()))
+            .wrapping_add(u64::from(record.ttl()))
+            .wrapping_add(data_len(&record));
+    }
+    sum
+}
+
+/// Returns how many octets the fields of the data have, with names whole, up to the first that is none.
+#[inline(always)]
+fn data_len(record: &RecordRef<'_>) -> u64 {
+    let mut sum = 0u64;
+    for field in record.fields() {
+        let Ok(field) = field else {
+            break;
+        };
+        sum = sum.wrapping_add(field_len(&field) as u64);
+    }
+    sum
+}
+
+#[inline(always)]
+fn field_len(field: &Field<'_>) -> usize {
+    match field {
+        Field::Name(name) => name.encoded_len(),
+        Field::U8(_) => 1,
+        Field::U16(_) | Field::TypeCode(_) => 2,
+        Field::U32(_) | Field::Time(_) | Field::Ipv4(_) => 4,
+        Field::U48(_) => 6,
+        Field::U64(_) => 8,
+        Field::Ipv6(_) => 16,
+        Field::Counted(octets) | Field::LongCounted(octets) | Field::Octets(octets) => octets.len(),
+        Field::Texts(items)
+        | Field::Types(items)
+        | Field::Params(items)
+        | Field::Prefixes(items)
+        | Field::Names(items) => items.as_bytes().len(),
+        Field::Shaped(shaped) => shaped.as_bytes().len(),
+    }
+}
+
 /// Returns the records of a message, section by section, or `None` if it can't be read.
 pub(crate) fn records_of<'m>(alloc: Global, msg: &'m [u8]) -> Option<Vec<RecordRef<'m>>> {
     let Ok(message) = MessageRef::read(msg) else {
