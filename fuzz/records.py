@@ -455,6 +455,15 @@ def is_no_loc(sample):
     return abs(latitude - 2**31) > 90 * 3600000 or abs(longitude - 2**31) > 180 * 3600000
 
 
+def loses_a_centimetre(sample):
+    """The altitude of our text is less than 100 times its metres, as floats."""
+    words = sample.line.split(" ")
+    if words[4] == "\\#":
+        return False
+    metres = float(words[-4].rstrip("m"))
+    return int(metres * 100.0) != round(metres * 100.0)
+
+
 def name_ends(data, at):
     """Where a name without pointers ends, or nothing."""
     start = at
@@ -469,6 +478,11 @@ def is_no_ipseckey(sample):
         return True
     end = name_ends(data, 3) if data[1] == 3 else 3 + (0, 4, 16)[data[1]]
     return end is None or end > len(data)
+
+
+def has_no_key(sample):
+    data = sample.data
+    return len(data) == (name_ends(data, 3) if data[1] == 3 else 3 + (0, 4, 16)[data[1]])
 
 
 def is_no_hip(sample):
@@ -620,7 +634,10 @@ DIFFERENCES = [
     (Dnspython, [THEIRS], "CERT", has_mnemonic, "prints mnemonics, and ours takes numbers"),
     (Dnspython, [THEIRS], "NSEC3", is_padded, "prints padding, or nothing for no hash"),
     (Dnspython, [THEIRS], "NSEC NSEC3 CSYNC", is_longer, "has no text for a bitmap with zeros at the end of a window"),
-    (Dnspython, [THEIRS], "LOC IPSECKEY HIP APL NID L64 AMTRELAY WKS NSAP TKEY TSIG", always, "has a text, and ours has that of any data"),
+    (Dnspython, [THEIRS], "WKS TKEY TSIG", always, "has a text, and ours has that of any data"),
+    (Dnspython, [THEIRS], "HIP", lambda sample: b"xn--" in sample.data.lower(), "prints labels in Punycode in Unicode"),
+    (Dnspython, [OURS_THERE], "IPSECKEY", has_no_key, "wants a word for no octets"),
+    (Dnspython, [OURS_THERE], "LOC", loses_a_centimetre, "reads an altitude as a float, and loses a centimetre"),
     (Dnspython, [OURS_THERE], "MD MF MB MG MR MINFO", always, "has no text but that of any data"),
     (Dnspython, [OURS_THERE], "HINFO NAPTR CAA URI", has_high_octets, "takes an octet above 127 for a character, and writes that in UTF-8"),
     (Dnspython, [OURS_THERE], "NSEC NSEC3 CSYNC", has_zero, "refuses type 0 in a bitmap"),
@@ -640,7 +657,11 @@ DIFFERENCES = [
     (Ldns, [THEIRS], "NSEC NSEC3 CSYNC", is_longer, "has no text for a bitmap with zeros at the end of a window"),
     (Ldns, [THEIRS], "SIG RRSIG", is_late, "prints a year before 1970 for a time that is nearer to now then"),
     (Ldns, [THEIRS], "CAA URI", is_empty, "prints nothing for an empty string"),
-    (Ldns, [THEIRS], "LOC IPSECKEY HIP APL NID L64 AMTRELAY WKS NSAP TKEY TSIG", always, "has a text, and ours has that of any data"),
+    (Ldns, [THEIRS], "LOC", is_no_loc, "prints zeros for 0 times a power of ten"),
+    (Ldns, [THEIRS], "IPSECKEY HIP", lambda sample: b'"' in sample.data, "prints a quote in a name without a backslash"),
+    (Ldns, [THEIRS, OURS_THERE], "IPSECKEY", has_no_key, "wants a word for no octets"),
+    (Ldns, [OURS_THERE], "IPSECKEY HIP", lambda sample: b"@" in sample.data, "takes a name that begins with @ for the origin, with a backslash before it too"),
+    (Ldns, [THEIRS], "WKS TKEY TSIG", always, "has a text, and ours has that of any data"),
     (Ldns, [OURS_THERE], None, lambda sample: len(sample.line.split(" ")[0]) > 254, "refuses an owner's text of more than 254 characters"),
     (Ldns, [OURS_THERE], None, begins_with_at, "takes a name that begins with @ for the origin, with a backslash before it too"),
     (Ldns, [OURS_THERE], "SVCB HTTPS", has_other_value, "refuses a value that has not the form of its key"),

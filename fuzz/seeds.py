@@ -232,7 +232,7 @@ def zones():
     for file in [*DIFF.glob("zones/*"), *DIFF.glob("included/**/*.zone"), *(DIFF.parent / "examples").glob("zone.*")]:
         yield "zone_files", file.read_bytes()
     for entry in b"$TTL 1w2d\n", b"$ORIGIN a.b.\n", b"$INCLUDE sub/x.zone c.d. ; e\n", b'$INCLUDE "a b"\n':
-        yield "zone_files", entry + b"@ 1 IN A 192.0.2.1\n  TXT ( a\n \"b c\" )\n" + entry
+        yield "zone_files", entry + b"@ 1 IN A 192.0.2.1\n  TXT ( a\n \"b c\" )\nb CH 2m NS a\n IN A 192.0.2.2\n" + entry
 
 
 def main():
