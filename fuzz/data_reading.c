@@ -276,6 +276,14 @@ static const struct mnemonic certificates[] = {{"PKIX", 1}, {"SPKI", 2}, {"PGP",
 /* RFC 9859, section 2.1. */
 static const struct mnemonic schemes[] = {{"NOTIFY", 1}, {NULL, 0}};
 
+/* Some of IANA's "Protocol Numbers", and of its "Service Name and Transport Protocol Port Numbers". */
+static const struct mnemonic protocols[] = {{"ICMP", 1}, {"IGMP", 2}, {"GGP", 3}, {"TCP", 6}, {"EGP", 8}, {"UDP", 17}, {NULL, 0}};
+static const struct mnemonic services[] = {
+    {"ECHO", 7}, {"DISCARD", 9}, {"SYSTAT", 11}, {"DAYTIME", 13}, {"NETSTAT", 15}, {"QOTD", 17}, {"CHARGEN", 19}, {"FTP-DATA", 20},
+    {"FTP", 21}, {"SSH", 22}, {"TELNET", 23}, {"SMTP", 25}, {"TIME", 37}, {"WHOIS", 43}, {"DOMAIN", 53}, {"BOOTPS", 67}, {"BOOTPC", 68},
+    {"TFTP", 69}, {"GOPHER", 70}, {"FINGER", 79}, {"HTTP", 80}, {"KERBEROS", 88}, {"POP3", 110}, {"SUNRPC", 111}, {"AUTH", 113},
+    {"NNTP", 119}, {"NTP", 123}, {"IMAP2", 143}, {"SNMP", 161}, {"BGP", 179}, {"LDAP", 389}, {"HTTPS", 443}, {NULL, 0}};
+
 /* A number in decimal, or one of these names in upper or lower case. */
 static bool take_named(struct reader *r, const struct mnemonic *names, uint32_t most, size_t size)
 {
@@ -309,6 +317,8 @@ static bool take_number_of(struct reader *r, uint16_t type, uint32_t number, siz
         return take_named(r, certificates, most, size);
     if (type == DNW_TYPE_DSYNC && number == 2)
         return take_named(r, schemes, most, size);
+    if (type == DNW_TYPE_WKS && number == 2)
+        return take_named(r, protocols, most, size);
     if ((number == 2 && is_among(type, second, sizeof second / sizeof *second)) ||
         (number == 3 && is_among(type, third, sizeof third / sizeof *third)))
         return take_named(r, algorithms, most, size);
@@ -629,6 +639,27 @@ static bool take_octets_of(struct reader *r, uint16_t type)
     return take_rest(r, is_among(type, keys, sizeof keys / sizeof *keys) ? put_base64 : put_hex_words);
 }
 
+/* Ports, or types below 128 but 0, up to the end: the bit of each, in as few octets as have them all. */
+static bool take_bits(struct reader *r, uint16_t type)
+{
+    static uint8_t bits[8192];
+    size_t len = 0;
+    memset(bits, 0, sizeof bits);
+    for (skip_blanks(r); r->left.len > 0; skip_blanks(r)) {
+        if (!(type == DNW_TYPE_WKS ? take_named(r, services, UINT16_MAX, 2) : take_type(r)))
+            return false;
+        r->len -= 2;
+        size_t bit = model_number(r->out + r->len, 2);
+        if (type == DNW_TYPE_NXT && (bit < 1 || bit > 127))
+            return false;
+        bits[bit / 8] |= (uint8_t)(0x80 >> bit % 8);
+        len = len > bit / 8 ? len : bit / 8 + 1;
+    }
+    memcpy(r->out + r->len, bits, len);
+    r->len += len;
+    return true;
+}
+
 static bool take_field(struct reader *r, uint16_t type, char letter, uint32_t number)
 {
     switch (letter) {
@@ -646,6 +677,7 @@ static bool take_field(struct reader *r, uint16_t type, char letter, uint32_t nu
     case 'o': return take_octets_of(r, type);
     case 'S': return take_strings(r);
     case 'B': return take_bitmap(r);
+    case 'b': return take_bits(r, type);
     case 'P': return take_params(r);
     case 'A': return take_each(r, take_prefix);
     case 'N': return take_each(r, take_name);
@@ -661,7 +693,7 @@ static bool take_field(struct reader *r, uint16_t type, char letter, uint32_t nu
 static bool has_own_form(uint16_t type, const char *row)
 {
     static const uint16_t known[] = {22, 49, 61, 67, 68};
-    return strpbrk(row, "VwbXC") == NULL && (strcmp(row, "o") != 0 || is_among(type, known, sizeof known / sizeof *known));
+    return strpbrk(row, "VwXC") == NULL && type != DNW_TYPE_DOA && (strcmp(row, "o") != 0 || is_among(type, known, sizeof known / sizeof *known));
 }
 
 bool model_data_text(uint16_t type, struct part text, struct part origin, uint8_t *out, size_t *len)

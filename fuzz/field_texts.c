@@ -270,6 +270,25 @@ static bool add_bitmap(struct made *made, const uint8_t *octets, size_t len)
     return true;
 }
 
+/* The numbers of the bits of octets, the last of which is not zero: ports (RFC 1035, section 3.4.2), or types below 128 but 0 (RFC 2535,
+   section 5.2). */
+static bool add_bits(struct made *made, uint16_t type, const uint8_t *octets, size_t len)
+{
+    size_t most = type == DNW_TYPE_WKS ? 8192 : type == DNW_TYPE_NXT ? 16 : 0;
+    if (most == 0 || len > most || (len > 0 && octets[len - 1] == 0) || (type == DNW_TYPE_NXT && len > 0 && octets[0] >= 128))
+        return false;
+    for (uint32_t bit = 0; bit < 8 * len; bit++) {
+        if ((octets[bit / 8] & 0x80 >> bit % 8) == 0)
+            continue;
+        add_text(made, " ");
+        if (type == DNW_TYPE_WKS)
+            add_number(made, "%u", bit);
+        else
+            add_code(made, dnw_type_print, (uint16_t)bit);
+    }
+    return true;
+}
+
 /* RFC 8659, section 4.1.1. */
 static bool add_tag(struct made *made, const uint8_t *octets, size_t len)
 {
@@ -436,6 +455,7 @@ bool add_field_text(struct made *made, uint16_t type, char letter, const uint8_t
     case 'N': return add_names(made, octets, len);
     case 'A': return add_prefixes(made, octets, len);
     case 'B': return add_bitmap(made, octets, len);
+    case 'b': return add_bits(made, type, octets, len);
     case 'P': return add_params(made, octets, len);
     case 'L': return add_location(made, octets, len);
     case 'G': return add_gateway(made, octets);
