@@ -16,25 +16,20 @@ static bool is_directive(struct part word, const char *name)
     return at == word.len && name[at] == 0;
 }
 
-/* Takes the only word that is left as a name. The model does not know whether octets that are not UTF-8 are taken. */
-static uint32_t take_only_name(struct reader *r, uint32_t kind)
+/* Takes the only word that is left as a name. */
+static bool take_only_name(struct reader *r)
 {
-    skip_blanks(r);
-    struct part left = r->left;
-    if (!take_name(r) || !is_at_end(r))
-        return DNW_ZONE_ERROR;
-    return model_is_utf8(left.bytes, left.len) ? kind : MODEL_OPEN;
+    return take_name(r) && is_at_end(r);
 }
 
 static uint32_t take_origin(struct reader *r, struct dnw_zone *zone)
 {
-    uint32_t kind = take_only_name(r, DNW_ZONE_NOTHING);
-    if (kind == DNW_ZONE_NOTHING) {
-        memcpy(zone->origin, r->out, r->len);
-        zone->origin_len = (uint8_t)r->len;
-    }
+    if (!take_only_name(r))
+        return DNW_ZONE_ERROR;
+    memcpy(zone->origin, r->out, r->len);
+    zone->origin_len = (uint8_t)r->len;
     r->len = 0;
-    return kind;
+    return DNW_ZONE_NOTHING;
 }
 
 static uint32_t take_default(struct reader *r, struct dnw_zone *zone)
@@ -47,25 +42,22 @@ static uint32_t take_default(struct reader *r, struct dnw_zone *zone)
     return DNW_ZONE_NOTHING;
 }
 
-/* The name of a file, and maybe an origin, which is put first. */
+/* The name of a file, and maybe an origin, which is put first. The model does not know whether a file is taken that is not UTF-8. */
 static uint32_t take_include(struct reader *r, size_t *name_len)
 {
     struct part file = take_word(r);
-    uint32_t kind = DNW_ZONE_INCLUDE;
     if (file.len == 0)
         return DNW_ZONE_ERROR;
     if (is_at_end(r)) {
         memcpy(r->out, r->origin.bytes, r->origin.len);
         r->len = r->origin.len;
-    } else {
-        kind = take_only_name(r, kind);
+    } else if (!take_only_name(r)) {
+        return DNW_ZONE_ERROR;
     }
-    if (kind == DNW_ZONE_ERROR)
-        return kind;
     *name_len = r->len;
     if (!put_string(r, file) || r->len == *name_len || memchr(r->out + *name_len, 0, r->len - *name_len) != NULL)
         return DNW_ZONE_ERROR;
-    return model_is_utf8(file.bytes, file.len) ? kind : MODEL_OPEN;
+    return model_is_utf8(file.bytes, file.len) ? DNW_ZONE_INCLUDE : MODEL_OPEN;
 }
 
 static uint32_t take_directive(struct reader *r, struct dnw_zone *zone, size_t *name_len)
