@@ -1,8 +1,8 @@
 """What was refused, so that it need not be tried again: `.ci/refused` has a line for each edit, with its name, a key, and how it was refused.
 
-A key is a sum over all that a refusal rests on: the edit; the code, specs and proofs of its crate; the contracts of the crates below;
-the specs and proofs there that these and the crate import, and what those import; what the crate's line in crates.txt says; the
-toolchain; and the version of this tool."""
+A key is a sum over all that a refusal rests on: the edit; the code, specs and proofs of its crate; what the crates below show to
+them, without the functions that none of all this names; the specs and proofs there that these and the crate import, and what those
+import; what the crate's line in crates.txt says; the toolchain; and the version of this tool."""
 
 import functools
 import hashlib
@@ -13,7 +13,7 @@ import threading
 from crates import ROOT, below, listed
 
 from wrong_bodies.edits import texts_of
-from wrong_bodies.source import contracts_of
+from wrong_bodies.source import Shown
 
 FILE = ROOT / ".ci" / "refused"
 # Is raised if edits are judged in another way, so that what was recorded counts for nothing.
@@ -38,9 +38,14 @@ def toolchain():
 
 
 @functools.lru_cache(maxsize=None)
-def contracts(crate):
-    """The contracts of a crate's files of code, by their paths in the repository."""
-    return {f"crates/{crate}/{path}": contracts_of(text) for path, text in texts_of(crate).items() if path.startswith("src/")}
+def shown_by(crate):
+    """What a crate's files of code show to those above it, by their paths in the repository."""
+    return {f"crates/{crate}/{path}": Shown(text) for path, text in texts_of(crate).items() if path.startswith("src/")}
+
+
+@functools.lru_cache(maxsize=None)
+def words_in(text):
+    return frozenset(re.findall(r"\w+", text))
 
 
 @functools.lru_cache(maxsize=None)
@@ -60,19 +65,35 @@ def reached_from(texts):
     return found
 
 
+def below_of(crate, words):
+    """The texts that a crate may rest on of those below it, if it and its edit have these words."""
+    shown = {path: it for other in below(crate, listed()) for path, it in shown_by(other).items()}
+    own, found, words = tuple(texts_of(crate).values()), {}, set(words).union(*map(words_in, texts_of(crate).values()))
+    while True:
+        found = {path: it.to(words) for path, it in shown.items()}
+        found.update(reached_from((*own, *found.values())))
+        more = words.union(*map(words_in, found.values()))
+        if more == words:
+            return found
+        words = more
+
+
 @functools.lru_cache(maxsize=None)
-def rests_on(crate):
-    """The sum of all that the refusals of a crate's edits rest on, but the edits."""
-    crates, own, lower = listed(), texts_of(crate), {}
-    for it in below(crate, crates):
-        lower.update(contracts(it))
-    lower.update(reached_from((*own.values(), *lower.values())))
-    parts = [part for texts in (own, lower) for pair in sorted(texts.items()) for part in pair]
-    return sum_of(str(VERSION), toolchain(), crate, *sorted(crates[crate]), *parts)
+def rests_on(crate, words=frozenset()):
+    """The sum of all that the refusals of a crate's edits rest on, but the edits. `words` are those that only the edit has."""
+    parts = [part for texts in (texts_of(crate), below_of(crate, words)) for pair in sorted(texts.items()) for part in pair]
+    return sum_of(str(VERSION), toolchain(), crate, *sorted(listed()[crate]), *parts)
+
+
+@functools.lru_cache(maxsize=None)
+def names_below(crate):
+    """The names of the functions that the crates below show, but those that the crate itself has."""
+    names = {name for other in below(crate, listed()) for it in shown_by(other).values() for name, _ in it.functions}
+    return names.difference(*map(words_in, texts_of(crate).values()))
 
 
 def key_of(edit):
-    return sum_of(rests_on(edit.crate), edit.text)[:32]
+    return sum_of(rests_on(edit.crate, words_in(edit.text) & names_below(edit.crate)), edit.text)[:32]
 
 
 class Record:

@@ -159,20 +159,33 @@ def is_same_code(old, new):
 IMPORT = re.compile(r"^(?:ghost )?use ([^;{]*)(?:\{([^}]*)\})?;\n?", re.M)
 
 
-def contracts_of(text):
-    """The text of a file without comments, private functions and the bodies of the others: what a crate above may rest on. Of
-    imports it has those that are named in what is left."""
-    lines = text.split("\n")
-    for function in functions_of("", text):
-        is_private = not re.search(r"\btrait\b|\bfor\b", function.head) and not re.match(r" *pub ", lines[function.first])
-        if is_private:
-            lines[function.top : function.last + 1] = [""] * (function.last + 1 - function.top)
-        elif function.body < function.last:
-            lines[function.body : function.last + 1] = [""] * (function.last + 1 - function.body)
-    shown = "\n".join(line.rstrip() for line in lines if line.strip() and not re.match(r" *//", line))
-    rest = IMPORT.sub("", shown)
-    imports = [(path, name) for path, names in IMPORT.findall(shown) for name in re.findall(r"[^\s,][^,]*", names or path)]
-    return "".join(f"use {path} {name}\n" for path, name in imports if is_named(name, rest)) + rest
+class Shown:
+    """What a file shows to the crates above: all but comments, private functions and the bodies of the others. Of `functions` each
+    is a pair of its name and its text, which is left out of `rest`: a crate that nowhere has the name can't call it. Methods of
+    traits are in the rest, since operators and `for` call them without a name."""
+
+    def __init__(self, text):
+        lines, self.functions = text.split("\n"), []
+        for function in functions_of("", text):
+            is_of_trait = re.search(r"\btrait\b|\bfor\b", function.head)
+            end = function.body if function.body < function.last else function.last + 1
+            if not is_of_trait and re.match(r" *pub ", lines[function.first]):
+                self.functions.append((function.name, without_comments(lines[function.top : end])))
+            start = function.body if is_of_trait else function.top
+            if not is_of_trait or function.body < function.last:
+                lines[start : function.last + 1] = [""] * (function.last + 1 - start)
+        shown = without_comments(lines)
+        self.rest = IMPORT.sub("", shown)
+        self.imports = [(path, name) for path, names in IMPORT.findall(shown) for name in re.findall(r"[^\s,][^,]*", names or path)]
+
+    def to(self, words):
+        """What it shows to texts that have these words. Of imports it has those that are named in what is left."""
+        kept = "\n".join([self.rest, *(text for name, text in self.functions if name in words)])
+        return "".join(f"use {path} {name}\n" for path, name in self.imports if is_named(name, kept)) + kept
+
+
+def without_comments(lines):
+    return "\n".join(line.rstrip() for line in lines if line.strip() and not re.match(r" *//", line))
 
 
 def is_named(name, text):
