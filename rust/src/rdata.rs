@@ -297,7 +297,7 @@ impl<'a> TryFrom<RData<'a>> for Ipv6Addr {
 macro_rules! each_own_struct {
     ($then:ident) => {
         $then! {
-            WKS<'a>, PX<'a>, GPOS<'a>, NXT<'a>, IPSECKEY<'a>, HIP<'a>, TALINK<'a>, DSYNC<'a>, L32, L64, TKEY<'a>, TSIG<'a>,
+            WKS<'a>, PX<'a>, GPOS<'a>, NXT<'a>, IPSECKEY<'a>, HIP<'a>, TALINK<'a>, DSYNC<'a>, L32, NID, L64, TKEY<'a>, TSIG<'a>,
             DOA<'a>, AMTRELAY<'a>, SOA<'a>, HINFO<'a>, MX<'a>, SRV<'a>, NAPTR<'a>, CERT<'a>, DS<'a>, SSHFP<'a>, RRSIG<'a>,
             NSEC<'a>, DNSKEY<'a>, NSEC3<'a>, NSEC3PARAM<'a>, TLSA<'a>, CSYNC, ZONEMD<'a>, SVCB<'a>, URI<'a>, CAA<'a>,
         }

@@ -1,6 +1,6 @@
 //! Messages and records that are built. Expected octets are what dnspython 2.3.0 writes for the same, or are worked out
 //! by hand from RFC 1035, sections 4.1 and 5.1, RFC 6891, section 6.1, and RFC 2181, section 9.
-use dns_names_wire::rdata::{AMTRELAY, CSYNC, L32, L64, MX, SOA, SRV, TSIG};
+use dns_names_wire::rdata::{AMTRELAY, CSYNC, L32, L64, MX, NID, SOA, SRV, TSIG};
 use dns_names_wire::{
     Class, Edns, Error, ErrorKind, Header, Message, MessageBuilder, Name, Need, OpCode, Pairs, RData, Record,
     RecordBuf, RecordSet, RecordType, ResponseCode, Section, Texts, TypeSet,
@@ -479,7 +479,8 @@ fn data_of_more_types_have_their_octets() {
     for (data, wire) in [
         (RData::X25(b"311061700956"), "0c333131303631373030393536"),
         (RData::L32(L32 { preference: 10, locator: Ipv4Addr::new(10, 1, 2, 0) }), "000a0a010200"),
-        (RData::NID(L64 { preference: 10, locator: 0x0014_4fff_ff20_ee64 }), "000a00144fffff20ee64"),
+        (RData::NID(NID { preference: 10, node_id: 0x0014_4fff_ff20_ee64 }), "000a00144fffff20ee64"),
+        (RData::L64(L64 { preference: 10, locator: 0x2001_0db8_1140_1000 }), "000a20010db811401000"),
         (
             RData::LP(MX { preference: 10, exchange: (&locators).into() }),
             "000a0b6c36342d7375626e657431076578616d706c6503636f6d00",

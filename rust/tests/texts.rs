@@ -1,6 +1,6 @@
 //! Texts of data in the forms of their RFCs: parsed, printed, and in a zone file. The texts are examples of RFC 1876, RFC 3123, RFC
 //! 1706, RFC 6742, RFC 4025 and RFC 8777; the octets are those that dnspython 2.3.0 makes of them.
-use dns_names_wire::rdata::{AMTRELAY, IPSECKEY, L64};
+use dns_names_wire::rdata::{AMTRELAY, IPSECKEY, NID};
 use dns_names_wire::{Name, RData, RecordBuf, ZoneItem, ZoneReader};
 
 /// The type, the data as they are printed, and their octets.
@@ -47,7 +47,7 @@ fn texts_have_fields() {
     let data = |text: &str| text.parse::<RecordBuf>().unwrap();
     let (node, key) = (data("h. 60 NID 10 0014:4fff:ff20:ee64"), data("k. 60 IPSECKEY 10 1 2 192.0.2.38 AQID"));
     let relay = data("a. 60 AMTRELAY 10 0 1 203.0.113.15");
-    assert_eq!(node.data(), Ok(RData::NID(L64 { preference: 10, locator: 0x0014_4fff_ff20_ee64 })));
+    assert_eq!(node.data(), Ok(RData::NID(NID { preference: 10, node_id: 0x0014_4fff_ff20_ee64 })));
     let gateway = &[1, 2, 192, 0, 2, 38];
     assert_eq!(key.data(), Ok(RData::IPSECKEY(IPSECKEY { precedence: 10, gateway, public_key: &[1, 2, 3] })));
     assert_eq!(relay.data(), Ok(RData::AMTRELAY(AMTRELAY { precedence: 10, relay: &[1, 203, 0, 113, 15] })));

@@ -328,11 +328,19 @@ macro_rules! each_struct {
                 locator: Ipv4Addr = ipv4,
             }
 
-            /// The identifier of a node, or a locator, of 64 bits (RFC 6742, sections 2.1 and 2.3).
+            /// The identifier of a node, of 64 bits (RFC 6742, section 2.1).
+            NID {
+                /// Lower values are preferred.
+                preference: u16 = u16,
+                /// The identifier.
+                node_id: u64 = u64,
+            }
+
+            /// A locator of 64 bits (RFC 6742, section 2.3).
             L64 {
                 /// Lower values are preferred.
                 preference: u16 = u16,
-                /// The identifier or the locator.
+                /// The locator.
                 locator: u64 = u64,
             }
 
@@ -486,7 +494,7 @@ macro_rules! each_variant {
                 /// Where to send notifications about a delegation.
                 DSYNC = 66: DSYNC<'a>,
                 /// The identifier of a node (RFC 6742, section 2.1).
-                NID = 104: L64,
+                NID = 104: NID,
                 /// A locator of 32 bits.
                 L32 = 105: L32,
                 /// A locator of 64 bits (RFC 6742, section 2.3).
