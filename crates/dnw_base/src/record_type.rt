@@ -388,13 +388,35 @@ impl From<u16> for RecordType {
 
     ghost from_gives = { λ code record_type. record_type ≡ type_of_code code };
 
+    // For usual codes the table need not be asked.
+    #[inline(always)]
     #[tactic(auto, unfolding(crate::specs::RecordTypes::type_of_code))]
     fn from(value: u16) -> Self
         ensures gives { result ≡ type_of_code value }
         ensures code { type_code result ≡ value }
     {
-        types!(by_code value)
+        match value {
+            1 => RecordType::A,
+            2 => RecordType::NS,
+            5 => RecordType::CNAME,
+            6 => RecordType::SOA,
+            12 => RecordType::PTR,
+            15 => RecordType::MX,
+            16 => RecordType::TXT,
+            28 => RecordType::AAAA,
+            41 => RecordType::OPT,
+            _ => type_listed(value),
+        }
     }
+}
+
+/// Returns the type with a code, by the table.
+#[tactic(auto, unfolding(crate::specs::RecordTypes::type_of_code))]
+fn type_listed(value: u16) -> RecordType
+    ensures gives { result ≡ type_of_code value }
+    ensures code { type_code result ≡ value }
+{
+    types!(by_code value)
 }
 
 /// The name of a type in capitals, or `Unknown`.

@@ -137,3 +137,10 @@ fields_hold P h class code octets = by_octets octets
     by_octets : (own : List ℕ) → P (fields_of class code own) ≡ true
     by_octets [] = elim (cases_Bool (may_lack_data class code)) [ inl may ↦ rw may h.none | inr must ↦ rw must (some []) ]
     by_octets (o ∷ os) = some (o ∷ os)
+
+-- ---- data in IN are not left out
+
+pub in_internet : (code : ℕ) (octets : List ℕ) → fields_of 1 code octets ≡ fields_in_internet code octets
+unfolding fields_of
+in_internet code [] = refl
+in_internet code (octet ∷ octets) = refl

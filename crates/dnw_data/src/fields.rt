@@ -57,6 +57,7 @@ impl<'r> Model for Fields<'r> {
 impl<'r> Fields<'r> {
     /// Creates an iterator over the fields of data of this class and type, which start at `start` and end where `message`
     /// does. Names in the data may point to what is before.
+    #[inline(always)]
     pub fn new(message: &'r [u8], start: usize, class: DNSClass, record_type: RecordType) -> Self
         requires { start ≤ length message.now }
         ensures { result ≡ fields_at message.now start

@@ -1,5 +1,5 @@
 //! The table of the fields of each record type.
-ghost use Rattle.std.specs.Prelude.{◌++◌, ◌≡◌, slice_index};
+ghost use Rattle.std.specs.Prelude.{◌++◌, ◌≡◌, IfSome, List, slice_index, ℕ};
 ghost use Rattle.dnw_base.specs.DnsClasses.{class_code};
 ghost use Rattle.dnw_base.specs.RecordTypes.{type_code};
 ghost use Rattle.dnw_data.specs.Table.{a6_fields, are_names_decompressed, fields_elsewhere, fields_in, fields_in_internet, fields_of};
@@ -125,8 +125,37 @@ const A6: u16 = 38;
 ///
 /// Of the data it matters only if there are any and, for A6, if their first octet is 0: then they end with no name (RFC 2874,
 /// section 3.1.1).
-#[tactic(auto, unfolding(crate::specs::Table::fields_of))]
+// For usual types the table need not be asked.
+#[inline(always)]
+#[tactic(auto, using(crate::proofs::Rows::in_internet))]
 pub fn fields_of(class: DNSClass, record_type: RecordType, octets: &[u8]) -> &'static [Kind]
+    ensures { result.now ≡ fields_of (class_code class) (type_code record_type) octets.now }
+{
+    match (class, usual_fields(record_type)) {
+        (DNSClass::IN, Some(kinds)) => kinds,
+        _ => listed_fields(class, record_type, octets),
+    }
+}
+
+/// Returns the kinds of the fields that data in IN have, for the types that are most used.
+#[inline(always)]
+fn usual_fields(record_type: RecordType) -> Option<&'static [Kind]>
+    ensures { IfSome result (λ kinds. (octets : List ℕ) → kinds.now ≡ fields_in_internet (type_code record_type) octets) }
+{
+    match record_type {
+        RecordType::A => Some(&[Kind::Ipv4]),
+        RecordType::NS | RecordType::CNAME | RecordType::PTR => Some(&[NAME]),
+        RecordType::SOA => Some(&AUTHORITY),
+        RecordType::MX => Some(&[Kind::U16, NAME]),
+        RecordType::TXT => Some(&[TEXTS]),
+        RecordType::AAAA => Some(&[Kind::Ipv6]),
+        _ => None,
+    }
+}
+
+/// Returns the kinds of the fields that data of a class and a type have, by the table.
+#[tactic(auto, unfolding(crate::specs::Table::fields_of))]
+fn listed_fields(class: DNSClass, record_type: RecordType, octets: &[u8]) -> &'static [Kind]
     ensures { result.now ≡ fields_of (class_code class) (type_code record_type) octets.now }
 {
     let class = u16::from(class);
