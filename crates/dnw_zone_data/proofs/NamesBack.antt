@@ -39,7 +39,7 @@ octet_len o xs fits = elim (cases_Bool (is_special o)) [
   ]
 ]
 
-label_len : (label xs : List ℕ) → IsOctets label → plain_len false (label_octets label ++ xs) ≡ length (label_octets label) + plain_len false xs
+pub label_len : (label xs : List ℕ) → IsOctets label → plain_len false (label_octets label ++ xs) ≡ length (label_octets label) + plain_len false xs
 label_len [] xs h = omega arith
 label_len (o ∷ label) xs h =
     rw (append_assoc (name_octet o) (label_octets label) xs)

@@ -6,7 +6,8 @@ use Rattle.dnw_base.specs.Limits.{max_data}
 use Rattle.std.specs.Prelude.{Option, Some, None, flat_map}
 use Rattle.dnw_base.specs.Names.{label_wire}
 use Rattle.dnw_data.specs.declared.kind.ListKind.TheVariants as lists
-use Rattle.dnw_data.specs.Values.{FieldValue, texts, items}
+use Rattle.dnw_data.specs.FieldWires.{field_wire}
+use Rattle.dnw_data.specs.Values.{FieldValue, counted, texts, items}
 use Rattle.dnw_zone_data.specs.Words.{after_spaces, word, after_word}
 use Rattle.dnw_zone_data.specs.StringLists.{strings_wire, AreStringWords, AreTexts, AreTooMany, BeginWithStrings}
 use Rattle.dnw_zone_values.specs.Strings.{IsStringText}
@@ -21,7 +22,7 @@ all_read Is old new true None e h = absurd cc
 all_read Is old new false (Some r) e h = absurd cc
 all_read Is old new false None e h = λ value r own. h value own.0
 
-pub lead_more : (text : List ℕ) (done : List (List ℕ)) (left string : List ℕ) → LeadTo text done left → left ≢ [] → IsStringText (word left) string
+lead_more : (text : List ℕ) (done : List (List ℕ)) (left string : List ℕ) → LeadTo text done left → left ≢ [] → IsStringText (word left) string
     → LeadTo text (done ++ string ∷ []) (after_spaces (after_word left))
 lead_more text [] left string h some is = (
   subst (λ (xs : List ℕ). xs ≢ []) h some,
@@ -90,8 +91,17 @@ pub too_many : (text : List ℕ) (done : List (List ℕ)) (left : List ℕ) → 
 too_many text done left h many = (done, begins text done left h, many)
 
 -- one string more
-pub more_strings : (old so_far new own : List ℕ) (done : List (List ℕ)) → so_far ≡ old ++ flat_map label_wire done → new ≡ so_far ++ label_wire own
+more_strings : (old so_far new own : List ℕ) (done : List (List ℕ)) → so_far ≡ old ++ flat_map label_wire done → new ≡ so_far ++ label_wire own
     → new ≡ old ++ flat_map label_wire (done ++ own ∷ [])
 more_strings old so_far new own done before e =
     e ∙ ap (λ (xs : List ℕ). xs ++ label_wire own) before ∙ append_assoc old (flat_map label_wire done) (label_wire own)
     ∙ ap (λ (xs : List ℕ). old ++ xs) (sym (last label_wire done own))
+
+-- what was read and written, after one string more
+pub one_more : (text : List ℕ) (done : List (List ℕ)) (left w own old so_far new : List ℕ) (value : FieldValue) → LeadTo text done left → left ≢ []
+    → w ≡ word left → IsStringText w own → so_far ≡ old ++ flat_map label_wire done → value ≡ counted own → new ≡ so_far ++ field_wire value
+    → LeadTo text (done ++ own ∷ []) (after_spaces (after_word left)) × (new ≡ old ++ flat_map label_wire (done ++ own ∷ []))
+one_more text done left w own old so_far new value lead some at string before same items = (
+  lead_more text done left own lead some (subst (λ (xs : List ℕ). IsStringText xs own) at string),
+  more_strings old so_far new own done before (items ∙ ap (λ (v : FieldValue). so_far ++ field_wire v) same),
+)

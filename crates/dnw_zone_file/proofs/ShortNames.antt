@@ -1,8 +1,7 @@
 -- A name that is written without the labels of an origin is one word, and is read as that name.
-use Rattle.std.proofs.Common.{◌≡◌, ◌≢◌, ℕ, suc, ◌+◌, ◌-◌, ◌/◌, ◌%◌, ◌<◌, ◌≤◌, Bool, true, false, ◌&&◌, List, [], ◌∷◌, ◌++◌, length, refl, sym, ap, ◌∙◌, subst, arith, append_assoc, append-nil, length-append, inl, inr}
-use Rattle.std.specs.Prelude.{nat_le, nat_lt, not, if◌then◌else◌, flat_map, Some, None, Ok, Err}
+use Rattle.std.proofs.Common.{◌≡◌, ◌≢◌, ℕ, suc, ◌+◌, ◌-◌, ◌<◌, ◌≤◌, Bool, true, false, List, [], ◌∷◌, ◌++◌, length, refl, sym, ap, ◌∙◌, subst, arith, append_assoc, append-nil, length-append, inl, inr}
+use Rattle.std.specs.Prelude.{nat_le, nat_lt, if◌then◌else◌, flat_map, Some, None, Ok, Err}
 use Rattle.std.specs.List.{AllByRecursion}
-use Rattle.std.proofs.lemmas.Bool.{cases_Bool}
 use Rattle.std.proofs.lemmas.List.{take_at}
 use Rattle.std.proofs.lemmas.List.Sums.{sum_by-append}
 use Rattle.dnw_base.specs.Labels.{IsLabel}
@@ -10,13 +9,13 @@ use Rattle.dnw_base.specs.Names.{AreLabels, NameValue, encoded_size}
 use Rattle.dnw_name_form.specs.Edits.{with_labels}
 use Rattle.dnw_name_form.specs.LabelOrder.{AreOctets}
 use Rattle.dnw_name_text.specs.NameReading.{Parsed, completed_at, labels_of_text, parsed_then}
-use Rattle.dnw_name_text.specs.NameTexts.{full_name_text, is_special, label_octets, labels_text, name_octet, relative_name_text}
+use Rattle.dnw_name_text.specs.NameTexts.{full_name_text, label_octets, labels_text, name_octet, relative_name_text}
 use Rattle.dnw_name_text.proofs.Joining.{dot_after_each, dotted, joined_cons}
 use Rattle.dnw_name_text.proofs.NamesBack.{names}
 use Rattle.dnw_zone_data.specs.NameReading.{named_at}
 use Rattle.dnw_zone_data.specs.Words.{begins_with_quote, is_end, plain_len, word_len}
-use Rattle.dnw_zone_data.proofs.NamesBack.{name_is, name_len}
-use Rattle.dnw_zone_data.proofs.Plain.{digit_plain, end_plain, is_plain, plain_goes_on, plain_no_backslash, plain_word_len, unquoted_len}
+use Rattle.dnw_zone_data.proofs.NamesBack.{label_len, name_is, name_len}
+use Rattle.dnw_zone_data.proofs.Plain.{end_plain, plain_word_len, unquoted_len}
 use Rattle.dnw_zone_file.specs.Entries.{owner_at}
 use Rattle.dnw_zone_file.specs.Inside.ShortTexts.{before_ending}
 use Rattle.dnw_zone_file.specs.ShortLines.{IsShortName}
@@ -33,29 +32,6 @@ pub record IsOwnerWord (origin : NameValue) (labels : List (List ℕ)) (w : List
   pub kept : Keeps Words w Words
 
 -- ---- one word
-
-plain_of : (o : ℕ) → is_special o ≡ false → (nat_le 33 o && nat_le o 126) ≡ true → is_plain o ≡ true
-plain_of o h k = grind arith
-
-octet_len : (o : ℕ) (xs : List ℕ) → o < 256 → plain_len false (name_octet o ++ xs) ≡ length (name_octet o) + plain_len false xs
-octet_len o xs fits = elim (cases_Bool (is_special o)) [
-  | inl special ↦ rw special (omega arith)
-  | inr other ↦ elim (cases_Bool (nat_le 33 o && nat_le o 126)) [
-    | inl printable ↦
-        let plain = plain_of o other printable in
-        rw (other, printable, plain_goes_on o plain, plain_no_backslash o plain) (omega arith)
-    | inr not ↦
-        let y = digit_plain (o / 10 % 10) (omega arith) in
-        let z = digit_plain (o % 10) (omega arith) in
-        rw (other, not, plain_goes_on _ y, plain_no_backslash _ y, plain_goes_on _ z, plain_no_backslash _ z) (omega arith)
-  ]
-]
-
-label_len : (label xs : List ℕ) → IsOctets label → plain_len false (label_octets label ++ xs) ≡ length (label_octets label) + plain_len false xs
-label_len [] xs h = omega arith
-label_len (o ∷ label) xs h =
-    rw (append_assoc (name_octet o) (label_octets label) xs)
-    (octet_len o (label_octets label ++ xs) (h 0) ∙ omega (arith, label_len label xs (λ i. h (suc i)), length-append (name_octet o) (label_octets label)))
 
 dotted_len : (labels : List (List ℕ)) (rest : List ℕ) → AllByRecursion IsOctets labels → is_end rest ≡ true
     → plain_len false (flat_map dotted labels ++ rest) ≡ length (flat_map dotted labels)

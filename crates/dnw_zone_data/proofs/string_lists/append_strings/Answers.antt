@@ -2,12 +2,11 @@ use Rattle.std.proofs.Common.{◌≡◌, ◌<◌, refl, List, ℕ, [], ◌∷◌
 use Rattle.std.specs.Prelude.{flat_map}
 use Rattle.dnw_base.specs.Limits.{max_data}
 use Rattle.dnw_base.specs.Names.{label_wire}
-use Rattle.dnw_data.specs.FieldWires.{field_wire}
-use Rattle.dnw_data.specs.Values.{FieldValue, counted}
+use Rattle.dnw_data.specs.Values.{counted}
 use Rattle.dnw_zone_data.specs.Words.{after_spaces, after_word, word}
 use Rattle.dnw_zone_values.specs.Strings.{IsStringText}
 use Rattle.dnw_zone_data.specs.Inside.StringWords.{LeadTo}
-use Rattle.dnw_zone_data.proofs.Rests.{lead_more, more_strings, no_texts, none_are, no_many, too_many, all_texts}
+use Rattle.dnw_zone_data.proofs.Rests.{one_more, no_texts, none_are, no_many, too_many, all_texts}
 use Rattle.dnw_zone_data.proofs.Empty.{is_empty, not_empty}
 use Rattle.dnw_zone_data.proofs.string_lists.append_strings.Goals as goal
 
@@ -35,9 +34,9 @@ returns-then-len-first-gt-MAX_DATA c =
     let new : List ℕ = c.parse_counted.new.out.items in
     let (value, (own, string, same), items) = rw c.if-not-branch.false at c.in_ok-parse_counted.ensures in
     let all = done ++ own ∷ [] in
-    let is = subst (λ (w : List ℕ). IsStringText w own) c.split_word.ensures.word string in
-    let lead = lead_more c.args.text.now done left own c.strings.invariant.1 (not_empty left _ c.is_empty-in-strings.ensures c.strings-test.true) is in
-    let wire = more_strings old so_far new own done c.strings.invariant.2 (items ∙ ap (λ (v : FieldValue). so_far ++ field_wire v) same) in
+    let some = not_empty left _ c.is_empty-in-strings.ensures c.strings-test.true in
+    let (lead, wire) =
+    one_more c.args.text.now done left _ own old so_far new value c.strings.invariant.1 some c.split_word.ensures.word string c.strings.invariant.2 same items in
     let many : max_data < length (flat_map label_wire all) =
     omega (arith, c.if-len-first-gt-MAX_DATA.true, c.len.ensures, c.len-first.ensures, ap length wire, length-append old (flat_map label_wire all)) in
     too_many c.args.text.now all (after_spaces (after_word left)) lead many
@@ -51,10 +50,10 @@ strings-preserved c =
     let new : List ℕ = c.parse_counted.new.out.items in
     let (value, (own, string, same), items) = rw c.if-not-branch.false at c.in_ok-parse_counted.ensures in
     let all = done ++ own ∷ [] in
-    let is = subst (λ (w : List ℕ). IsStringText w own) c.split_word.ensures.word string in
-    let lead = lead_more c.args.text.now done left own c.strings.invariant.1 (not_empty left _ c.is_empty-in-strings.ensures c.strings-test.true) is in
-    let rest = c.after_spaces-left-in-strings.ensures.rest ∙ ap after_spaces c.split_word.ensures.rest in
-    let wire = more_strings old so_far new own done c.strings.invariant.2 (items ∙ ap (λ (v : FieldValue). so_far ++ field_wire v) same) in (
+    let some = not_empty left _ c.is_empty-in-strings.ensures c.strings-test.true in
+    let (lead, wire) =
+    one_more c.args.text.now done left _ own old so_far new value c.strings.invariant.1 some c.split_word.ensures.word string c.strings.invariant.2 same items in
+    let rest = c.after_spaces-left-in-strings.ensures.rest ∙ ap after_spaces c.split_word.ensures.rest in (
       all,
       subst (LeadTo c.args.text.now all) (sym rest) lead,
       wire,
