@@ -9,6 +9,6 @@ pub mod fours;
 pub mod label;
 pub mod label_iter;
 pub mod lengths;
-mod lower;
+pub mod lower;
 pub mod octets;
 pub mod wire_labels;

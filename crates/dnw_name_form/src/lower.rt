@@ -25,7 +25,7 @@ static LOWER: [u8; 256] = [
 
 /// Returns an octet in lower case. Where octets are compared one by one, a table takes fewer steps than `to_ascii_lowercase`.
 #[inline(always)]
-pub(crate) fn lower(octet: u8) -> u8
+pub fn lower(octet: u8) -> u8
     ensures { result ≡ to_ascii_lowercase octet }
 {
     LOWER[octet as usize]

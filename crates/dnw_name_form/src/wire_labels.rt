@@ -120,16 +120,16 @@ fn count_labels(wire: &[u8]) -> usize
     count
 }
 
-/// Returns the first label of a wire form, and the wire form of the others.
+/// Returns the first label of a wire form, and the wire form of the others. There is a first octet, so no length is tested.
 #[inline(always)]
 fn split_label(wire: &[u8]) -> Option<(&[u8], &[u8])>
     requires { IsWire wire.now }
     ensures { MatchOption result (labels_of wire.now ≡ []) (λ split. SplitsLabel wire.now split.0.now split.1.now) }
 {
-    let (len, rest) = wire.split_first()?;
-    let len = *len as usize;
+    let len = wire[0] as usize;
     if len == 0 {
         return None;
     }
+    let (_, rest) = wire.split_at(1);
     Some(rest.split_at(len))
 }

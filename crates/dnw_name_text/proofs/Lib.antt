@@ -14,4 +14,5 @@ pub mod TextSizes
 pub mod NamesBack
 pub mod PlainRuns
 pub mod PlainNames
+mod PlainLeft
 pub mod PlainForms

@@ -1,11 +1,11 @@
 -- Labels of octets that stand for themselves.
-use Rattle.std.proofs.Common.{◌≡◌, ℕ, zero, suc, ◌+◌, ◌<◌, ◌≤◌, true, false, List, ◌==◌, length, take, get_or, refl, sym, ◌∙◌, add-one, add-zero, arith}
+use Rattle.std.proofs.Common.{◌≡◌, ℕ, zero, suc, ◌+◌, ◌<◌, ◌≤◌, true, false, List, ◌==◌, length, take, get_or, refl, sym, ap, ◌∙◌, add-one, add-zero, arith}
 use Rattle.std.specs.List.{list_all}
 use Rattle.std.proofs.lemmas.Bool.{and_parts, lt-ltb}
-use Rattle.std.proofs.lemmas.List.Folds.{list_all_more}
-use Rattle.std.proofs.lemmas.List.{length-take-le, take_more, drop_more}
+use Rattle.std.proofs.lemmas.List.Folds.{list_all_at, list_all_more}
+use Rattle.std.proofs.lemmas.List.{length-take-le, get_or_past, take_all, take_more, drop_more}
 use Rattle.dnw_name_text.specs.Inside.Labels.{BeginsPlain}
-use Rattle.dnw_name_text.specs.Inside.Plain.{is_own_octet}
+use Rattle.dnw_name_text.specs.PlainNames.{is_own_octet}
 
 own_no_dot : (o : ℕ) → is_own_octet o ≡ true → (o == 46) ≡ false
 unfolding is_own_octet
@@ -15,10 +15,28 @@ own_no_backslash : (o : ℕ) → is_own_octet o ≡ true → (o == 92) ≡ false
 unfolding is_own_octet
 own_no_backslash o h = grind arith
 
+-- there is none past the end
+pub own_past : (text : List ℕ) (n : ℕ) → length text ≤ n → is_own_octet (get_or text n 0) ≡ false
+unfolding is_own_octet
+own_past text n past = rw (get_or_past text n 0 past) refl
+
 -- one more
 pub own_more : (text : List ℕ) (n m : ℕ) → m ≡ n + 1 → n < length text → is_own_octet (get_or text n 0) ≡ true
     → list_all is_own_octet (take n text) ≡ true → list_all is_own_octet (take m text) ≡ true
 own_more text n m next lt own all = rw (next, list_all_more is_own_octet text n 0 lt, all, own) refl
+
+-- all are if those up to the end are, or none is left but the last one; not if one is not
+pub own_all : (text : List ℕ) (n : ℕ) → length text ≤ n → list_all is_own_octet (take n text) ≡ true → list_all is_own_octet text ≡ true
+own_all text n past all = rw (take_all n text past) at all
+
+pub own_last : (text : List ℕ) (n : ℕ) → length text ≡ n + 1 → list_all is_own_octet (take n text) ≡ true
+    → list_all is_own_octet text ≡ is_own_octet (get_or text n 0)
+own_last text n size all =
+    sym (ap (λ (t : List ℕ). list_all is_own_octet t) (take_all (n + 1) text (omega (arith, size))))
+    ∙ list_all_more is_own_octet text n 0 (omega (arith, size)) ∙ rw all refl
+
+pub own_not : (text : List ℕ) (n : ℕ) → n < length text → is_own_octet (get_or text n 0) ≡ false → list_all is_own_octet text ≡ false
+own_not text n lt not_own = list_all_at is_own_octet text n 0 lt not_own
 
 -- and what reading is after it
 plain_more : (text : List ℕ) (n m : ℕ) → m ≡ n + 1 → n < length text → n < 63 → is_own_octet (get_or text n 0) ≡ true

@@ -1,8 +1,8 @@
 //! Octets that stand for themselves in the text of a name.
-ghost use Rattle.std.specs.Prelude.{◌≡◌, ◌≤◌, length, take, true};
+ghost use Rattle.std.specs.Prelude.{◌≡◌, ◌<◌, ◌≤◌, get_or, length, take, false, true};
 ghost use Rattle.std.specs.List.{list_all};
 ghost use Rattle.dnw_base.specs.Limits.{max_label};
-ghost use Rattle.dnw_name_text.specs.Inside.Plain.{is_own_octet};
+ghost use Rattle.dnw_name_text.specs.PlainNames.{is_own_octet, is_plain_label};
 
 use dnw_base::limits::MAX_LABEL;
 
@@ -35,13 +35,56 @@ pub(crate) fn is_own(octet: u8) -> bool
     OWN[octet as usize] == 1
 }
 
-/// Returns the number of octets that stand for themselves, 63 at most, that a text begins with.
+/// Returns `true` if each octet stands for itself.
+// The last ones are tested without a loop: most labels have few.
 #[inline(always)]
-#[tactic(auto, using(crate::proofs::PlainRuns::own_more))]
+#[tactic(auto, using(crate::proofs::PlainRuns::own_more, crate::proofs::PlainRuns::own_all, crate::proofs::PlainRuns::own_last, crate::proofs::PlainRuns::own_not))]
+pub(crate) fn are_own(octets: &[u8]) -> bool
+    ensures { result ≡ is_plain_label octets.now }
+{
+    let mut end = 0;
+    'fours: while octets.len() - end >= 4 {
+        if !is_own(octets[end]) {
+            return false;
+        }
+        if !is_own(octets[end + 1]) {
+            return false;
+        }
+        if !is_own(octets[end + 2]) {
+            return false;
+        }
+        if !is_own(octets[end + 3]) {
+            return false;
+        }
+        end += 4;
+    }
+    let left = octets.len() - end;
+    if left == 0 {
+        return true;
+    }
+    if left == 1 {
+        return is_own(octets[end]);
+    }
+    if !is_own(octets[end]) {
+        return false;
+    }
+    if left == 2 {
+        return is_own(octets[end + 1]);
+    }
+    if !is_own(octets[end + 1]) {
+        return false;
+    }
+    is_own(octets[end + 2])
+}
+
+/// Returns the number of octets that stand for themselves that a text begins with, or 63 if there are more.
+#[inline(always)]
+#[tactic(auto, using(crate::proofs::PlainRuns::own_more, crate::proofs::PlainRuns::own_past))]
 pub(crate) fn own_len(text: &[u8]) -> usize
     ensures few { result ≤ length text.now }
     ensures short { result ≤ max_label }
     ensures own { list_all is_own_octet (take result text.now) ≡ true }
+    ensures most { result < max_label → is_own_octet (get_or text.now result 0) ≡ false }
 {
     let most = text.len().min(MAX_LABEL);
     let mut len = 0;
@@ -61,7 +104,10 @@ pub(crate) fn own_len(text: &[u8]) -> usize
         }
         len += 4;
     }
-    while len < most && is_own(text[len]) {
+    while len < most {
+        if !is_own(text[len]) {
+            return len;
+        }
         len += 1;
     }
     len

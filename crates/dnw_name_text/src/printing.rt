@@ -1,6 +1,6 @@
 //! Names printed (RFC 1035, section 5.1).
 ghost use Rattle.std.specs.Prelude.{◌≡◌, ◌≢◌, ◌+◌, ◌-◌, ◌*◌, ◌≤◌, ◌<◌, [], ◌++◌, length, drop, map, IsTrue, IfSome, IfNone};
-ghost use Rattle.std.specs.List.{AllByRecursion, join_with_byte};
+ghost use Rattle.std.specs.List.{AllByRecursion, join_with_byte, list_all};
 ghost use Rattle.arrayvec.specs.ArrayString.{array_string_len};
 ghost use Rattle.dnw_base.specs.Limits.{max_name};
 ghost use Rattle.dnw_base.specs.Labels.{IsLabel};
@@ -8,10 +8,11 @@ ghost use Rattle.dnw_base.specs.Names.{encoded_size, wire};
 ghost use Rattle.dnw_name_form.specs.LabelText.{dot};
 ghost use Rattle.dnw_name_text.specs.AsciiText.{max_text};
 ghost use Rattle.dnw_name_text.specs.Inside.Plain.{plain_text};
+ghost use Rattle.dnw_name_text.specs.PlainNames.{is_plain_label, is_plain_name};
 ghost use Rattle.dnw_name_text.specs.NameTexts.{is_special, full_name_text, name_octet, label_octets, labels_text, text_of_name};
 
 pub use crate::ascii::MAX_TEXT;
-use crate::plain::own_len;
+use crate::plain::are_own;
 use arrayvec::ArrayString;
 use dnw_name_form::wire_labels::WireLabels;
 
@@ -37,16 +38,17 @@ pub fn push_name(out: &mut ArrayString<MAX_TEXT>, labels: WireLabels<'_>, is_fqd
     }
 }
 
-/// Puts the text of the fully qualified name with these labels at the front of a buffer, and returns its length, if there are labels,
-/// each of their octets stands for itself, and the text fits. Else it returns `None`, and the buffer is unchanged.
+/// Puts the text of the fully qualified name with these labels at the front of a buffer, and returns its length, if the name is plain
+/// and the text fits: there are labels, and each of their octets stands for itself. Else it returns `None`, and the buffer is unchanged.
 ///
 /// Such a text is the wire form after its first octet, with dots in the place of the other lengths and of the zero. So it is copied in
 /// one piece, and takes fewer instructions than `push_name`.
-
 pub fn put_plain_text(out: &mut [u8], labels: WireLabels<'_>) -> Option<usize>
     ensures some { IfSome result (λ len. (len ≡ length (full_name_text labels.entry)) × (len ≤ length out.old)
         × (out.new ≡ full_name_text labels.entry ++ drop len out.old)) }
-    ensures none { IfNone result (out.new ≡ out.old) }
+    ensures plain { IfSome result (λ len. IsTrue (is_plain_name labels.entry)) }
+    ensures none { IfNone result ((out.new ≡ out.old)
+        × (IsTrue (is_plain_name labels.entry) → length out.old < length (full_name_text labels.entry))) }
 {
     let form = labels.as_wire();
     let len = form.len() - 1;
@@ -59,23 +61,17 @@ pub fn put_plain_text(out: &mut [u8], labels: WireLabels<'_>) -> Option<usize>
 }
 
 /// Returns `true` if each octet of the labels stands for itself.
+#[tactic(auto, using(crate::proofs::PlainNames::plain_labels))]
 fn are_plain(mut labels: WireLabels<'_>) -> bool
-    ensures { IsTrue result → labels_text labels.entry ≡ plain_text labels.entry }
+    ensures plain { result ≡ list_all is_plain_label labels.entry }
+    ensures text { IsTrue result → labels_text labels.entry ≡ plain_text labels.entry }
 {
     'labels: while let Some(label) = labels.next() {
-        if !is_plain(label) {
+        if !are_own(label) {
             return false;
         }
     }
     true
-}
-
-/// Returns `true` if each octet of a label stands for itself.
-#[inline(always)]
-fn is_plain(label: &[u8]) -> bool
-    ensures { IsTrue result → label_octets label.now ≡ label.now }
-{
-    own_len(label) == label.len()
 }
 
 /// Puts a dot after each label of a wire form whose octets after the first one are at the front of a buffer.

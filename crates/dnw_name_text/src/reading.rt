@@ -1,11 +1,14 @@
 //! Names in texts (RFC 1035, section 5.1).
-ghost use Rattle.std.specs.Prelude.{◌≡◌, ◌≢◌, ℕ, ◌+◌, ◌^◌, ◌<◌, ◌≤◌, true, List, [], ◌++◌, Option, length, take, drop, Ok, Err, IfSome, IfOk, IfErr};
+ghost use Rattle.std.specs.Prelude.{◌≡◌, ◌≢◌, ℕ, ◌+◌, ◌^◌, ◌<◌, ◌≤◌, false, true, List, [], ◌++◌, Option, get_or, length, take, drop, Ok, Err, IsTrue, IfSome, IfNone, IfOk, IfErr};
+ghost use Rattle.std.specs.List.{list_all};
 ghost use Rattle.dnw_base.specs.Limits.{max_label, max_name};
 ghost use Rattle.dnw_base.specs.Names.{AreLabels, encoded_size, wire};
 ghost use Rattle.dnw_name_text.specs.declared.reading.Escape.TheVariants.{Outside};
 ghost use Rattle.dnw_name_text.specs.Inside.Labels.{IsEscape, IsTextElement, BeginsPlain, MakesLabels, MakesName, MakesStep};
 ghost use Rattle.dnw_name_form.specs.Edits.{with_labels};
 ghost use Rattle.dnw_name_form.specs.LabelText.{dot, backslash};
+ghost use Rattle.dnw_name_text.specs.NameTexts.{full_name_text};
+ghost use Rattle.dnw_name_text.specs.PlainNames.{is_own_octet, is_plain_name};
 ghost use Rattle.dnw_name_text.specs.NameReading.{element, ended, labels_from, labels_of_text, name_of_text, one_label_more, or_too_long};
 
 use crate::ascii::Parsed;
@@ -89,14 +92,16 @@ pub fn read_into(
     Ok(true)
 }
 
-/// Puts the wire form of the name that a text gives at the front of a room, and returns its length, if the octets of its labels stand for
-/// themselves and a dot is after each of them. Else it returns `None`, and the room has any octets.
+/// Puts the wire form of the name that a text gives at the front of a room, and returns its length, if it is the text of a plain name,
+/// as `put_plain_text` puts it: the octets of its labels stand for themselves, and a dot is after each label. Else it returns `None`,
+/// and the room has any octets.
 ///
 /// The text is copied in one piece, and each dot gives way to the length of the next label, or to the closing zero. So it takes fewer
 /// instructions than `read`.
 pub fn put_plain_form(room: &mut [u8; MAX_NAME], text: &[u8]) -> Option<usize>
-    ensures { IfSome result (λ len. (labels : List (List ℕ)) × (take len room.new ≡ wire labels) × (len ≡ encoded_size labels) × AreLabels labels
+    ensures some { IfSome result (λ len. (labels : List (List ℕ)) × (take len room.new ≡ wire labels) × (len ≡ encoded_size labels) × AreLabels labels
         × ((origin : Option (List (List ℕ))) → name_of_text origin text.now ≡ Ok (record { is_fqdn = true; labels = labels }))) }
+    ensures none { IfNone result ((labels : List (List ℕ)) → AreLabels labels → IsTrue (is_plain_name labels) → text.now ≡ full_name_text labels → ⊥) }
 {
     if text.is_empty() || text.len() >= MAX_NAME {
         return None;
@@ -184,6 +189,8 @@ fn plain_len(text: &[u8]) -> usize
     ensures few { result ≤ length text.now }
     ensures short { result ≤ max_label }
     ensures plain { BeginsPlain text.now result }
+    ensures own { list_all is_own_octet (take result text.now) ≡ true }
+    ensures most { result < max_label → is_own_octet (get_or text.now result 0) ≡ false }
 {
     own_len(text)
 }

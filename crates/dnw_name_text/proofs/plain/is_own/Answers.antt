@@ -1,6 +1,6 @@
 use Rattle.std.proofs.Common.{get_or, ◌==◌, ℕ, refl, arith}
 use Rattle.std.proofs.lemmas.Bool.{agree_below_at}
-use Rattle.dnw_name_text.specs.Inside.Plain.{is_own_octet}
+use Rattle.dnw_name_text.specs.PlainNames.{is_own_octet}
 use Rattle.dnw_name_text.specs.declared.plain.TheConstants.{OWN}
 use Rattle.dnw_name_text.proofs.plain.is_own.Goals as goal
 

@@ -1,7 +1,7 @@
 -- Octet by octet.
 use Rattle.std.proofs.Common.{◌≡◌, ◌+◌, true, take, arith}
 use Rattle.std.specs.List.{list_all}
-use Rattle.dnw_name_text.specs.Inside.Plain.{is_own_octet}
+use Rattle.dnw_name_text.specs.PlainNames.{is_own_octet}
 use Rattle.dnw_name_text.proofs.PlainRuns.{own_more}
 use Rattle.dnw_name_text.proofs.plain.own_len.Goals as goal
 

@@ -1,6 +1,6 @@
 use Rattle.std.proofs.Common.{◌≡◌, ◌-◌, ◌≤◌, true, take}
 use Rattle.std.specs.List.{list_all}
-use Rattle.dnw_name_text.specs.Inside.Plain.{is_own_octet}
+use Rattle.dnw_name_text.specs.PlainNames.{is_own_octet}
 use Rattle.dnw_name_text.proofs.plain.own_len.Given as goal
 
 abbrev pub invariant-loop-len : goal.invariant-loop-len
