@@ -2,3 +2,4 @@ pub mod Comparing
 pub mod Lengths
 pub mod SortKeys
 pub mod Numbers
+pub mod OctetNumbers

@@ -58,6 +58,9 @@ compare_as names x y p q =
     ap (λ l. slice_cmp nat_cmp l (key_of y)) p ∙ ap (slice_cmp nat_cmp (sort_key a)) q ∙ keys_compare a b in
     ap (λ o. ordering_then o (nat_cmp (number_of x) (number_of y))) keys
 
+pub entries_total : IsTotalOrder entry_cmp
+entries_total = then_total (on_total key_of nat_list_cmp_total) (on_total number_of nat_cmp_total)
+
 numbers_total : (names : Names) → IsTotalOrder (numbers_cmp names)
 numbers_total names =
     then_total (on_total (λ number. get_or names number []) (on_total canonical (lists_total nat_list_cmp_total))) nat_cmp_total

@@ -1,3 +1,4 @@
 pub mod Lengths
 pub mod KeyBuffers
 pub mod Keyed
+pub mod Numbers

@@ -4,6 +4,7 @@
 #![tactic(auto)]
 
 pub mod from_last;
+mod octets;
 pub mod order;
 pub mod sort_key;
 pub mod sorting;

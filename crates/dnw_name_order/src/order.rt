@@ -153,7 +153,7 @@ fn cmp_from<F: LabelCmp>(left: &[u8], right: &[u8], start: usize) -> Ordering
 
 /// Compares two lengths. Each result is a branch of its own, so that a caller that asks for it asks no second time.
 #[inline(always)]
-fn cmp_lengths(left: usize, right: usize) -> Ordering
+pub(crate) fn cmp_lengths(left: usize, right: usize) -> Ordering
     ensures { result ≡ nat_cmp left right }
 {
     if left == right {

@@ -7,6 +7,7 @@ ghost use Rattle.dnw_name_order.specs.Inside.KeyBuffers.{AppendsKey};
 ghost use Rattle.dnw_name_order.specs.SortKeys.{escape_octet, label_key, max_sort_key, sort_key};
 
 use crate::from_last::FromLast;
+use dnw_name_form::lower::lower;
 use dnw_name_form::wire_labels::WireLabels;
 
 pub mod laws;
@@ -49,7 +50,7 @@ fn put_label(buffer: &mut [u8; MAX_SORT_KEY_LENGTH], start: usize, label: &[u8])
 {
     let mut end = start;
     for octet in label {
-        end = put_octet(buffer, end, octet.to_ascii_lowercase());
+        end = put_octet(buffer, end, lower(*octet));
     }
     buffer[end] = 0;
     end + 1

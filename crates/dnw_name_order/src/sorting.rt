@@ -2,12 +2,14 @@
 ghost use Rattle.std.specs.Prelude.{◌≡◌, [], ◌∷◌, ◌++◌, ℕ, List, length, map, slice_get, OnOk, OnErr};
 ghost use Rattle.dnw_name_order.specs.SortKeys.{sort_key};
 ghost use Rattle.dnw_name_order.specs.Sorted.{AreInOrder};
-ghost use Rattle.dnw_name_order.specs.Inside.Keyed.{AreSorted};
+ghost use Rattle.dnw_name_order.specs.Inside.Keyed.{AreSorted, entry_cmp};
 
+use crate::octets::cmp_octets;
 use crate::sort_key::{self, MAX_SORT_KEY_LENGTH};
 use dnw_name_form::wire_labels::WireLabels;
 use smallvec::SmallVec;
 use std::alloc::{AllocError, Global};
+use std::cmp::Ordering;
 use std::marker::Model;
 
 /// A sort key. Most names have a short one, which is kept inline, so that they are sorted without an allocation for each.
@@ -87,8 +89,20 @@ fn by_keys(mut entries: Vec<(Key, usize)>) -> Vec<(Key, usize)>
     ensures sorted { AreSorted entries.items result.items }
     ensures len { length result.items ≡ length entries.items }
 {
-    entries.sort_unstable();
+    entries.sort_unstable_by(|left, right| cmp_entries(left, right));
     entries
+}
+
+/// Compares entries by their keys, and then by their numbers.
+#[inline(always)]
+fn cmp_entries(left: &(Key, usize), right: &(Key, usize)) -> Ordering
+    ensures { result ≡ entry_cmp left.now right.now }
+{
+    let order = cmp_octets(left.0.as_slice(), right.0.as_slice());
+    if order.is_ne() {
+        return order;
+    }
+    left.1.cmp(&right.1)
 }
 
 /// The numbers of names, from 0, in canonical order of the names.
