@@ -36,4 +36,6 @@ lies_at form ls size count is are size_is count_is =
         back = omega arith;
         form = rw (none, between_none, append-nil, all, same) is;
       };
+      known = λ few. omega (arith, size_is);
+      whole = λ none. refl;
     }

@@ -7,3 +7,4 @@ pub mod Pieces
 pub mod Walking
 pub mod Takes
 pub mod Copying
+mod LastLabels

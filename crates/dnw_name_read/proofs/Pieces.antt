@@ -1,5 +1,5 @@
 -- The octets of the labels that a walk has passed, segment by segment.
-use Rattle.std.proofs.Common.{◌≡◌, ℕ, ◌+◌, ◌-◌, ◌<◌, ◌≤◌, List, [], ◌∷◌, ◌++◌, inl, inr, length, slice_get, slice_range, Some, refl, sym, ap, ◌∙◌, append_assoc, add-zero, arith, length-append}
+use Rattle.std.proofs.Common.{◌≡◌, ◌≢◌, ℕ, ◌+◌, ◌-◌, ◌<◌, ◌≤◌, List, [], ◌∷◌, ◌++◌, inl, inr, length, slice_get, slice_range, Some, refl, sym, ap, ◌∙◌, append_assoc, add-zero, arith, length-append}
 use Rattle.std.proofs.lemmas.List.{append-nil}
 use Rattle.std.proofs.lemmas.List.Edits.{length-between, between_none}
 use Rattle.std.proofs.lemmas.Option.{get_or_from_slice_get, slice_get_within}
@@ -11,14 +11,19 @@ use Rattle.dnw_name_read.proofs.Copying.{slice_range_split, slice_range_cons}
 use Rattle.dnw_name_read.proofs.Counts.{length_label}
 
 -- none are passed before the first label
-pub passed_none : (b : List ℕ) (p first limit : ℕ) (passed : List (List ℕ)) → passed ≡ [] → limit ≤ length b → PassedOctets b first p p limit passed
-passed_none b p first limit passed none within = record {
+pub passed_none : (b : List ℕ) (p limit : ℕ) (passed : List (List ℕ)) → passed ≡ [] → limit ≤ length b → PassedOctets b p p p limit passed
+passed_none b p limit passed none within = record {
   before = [];
   octets = rw (none, between_none) refl;
   none = λ _. refl;
+  some = λ other. absurd (other refl);
   piece = λ _. rw (add-zero, between_none) refl;
   inside = λ same. omega (arith, same, within);
 }
+
+some_octets : (labels : List (List ℕ)) → labels ≢ [] → 1 ≤ length (labels_wire labels)
+some_octets [] some = absurd (some refl)
+some_octets (label ∷ labels) some = omega (arith, length-append (label_wire label) (labels_wire labels))
 
 module _ {b : List ℕ} {first p s limit : ℕ} {passed : List (List ℕ)} (h : PassedOctets b first p s limit passed) where
   -- a label is passed
@@ -34,19 +39,21 @@ module _ {b : List ℕ} {first p s limit : ℕ} {passed : List (List ℕ)} (h : 
             ∙ ap (λ (more : List ℕ). h.before ++ (slice_range b s p ++ more)) (sym own)
             ∙ ap (λ (more : List ℕ). h.before ++ more) (sym (slice_range_split b s p (p + 1 + c) order (omega arith)));
         none = h.none;
+        some = h.some;
         piece = h.piece;
         inside = h.inside;
       }
 
   -- a pointer is followed after a label
-  pub passed_jump : (t : ℕ) → t < s → s ≤ first → s ≤ p → p ≤ length b → PassedOctets b first t t s passed
-  passed_jump t prior earlier order inside =
+  pub passed_jump : (t : ℕ) → passed ≢ [] → t < s → s ≤ first → s ≤ p → p ≤ length b → PassedOctets b first t t s passed
+  passed_jump t labels prior earlier order inside =
       let own : s ≡ first → h.before ++ slice_range b s p ≡ slice_range b first p = λ same. rw (h.none same, same) refl in
       let size : s ≡ first → first + length (h.before ++ slice_range b s p) ≡ p = λ same. omega (arith, ap length (own same), length-between b first p inside) in
       record {
         before = h.before ++ slice_range b s p;
         octets = rw (between_none, append-nil) h.octets;
         none = λ same. absurd (omega (arith, same, prior, earlier));
+        some = λ _. rw (ap length h.octets) at (some_octets passed labels);
         piece = λ same. rw (size same) (own same);
         inside = λ same. omega (arith, size same, inside);
       }
@@ -66,7 +73,7 @@ module _ {b : List ℕ} {first p s limit : ℕ} {passed : List (List ℕ)} (h : 
         ∙ ap (λ (more : List ℕ). h.before ++ (slice_range b s p ++ more)) (sym last)
         ∙ ap (λ (more : List ℕ). h.before ++ more) (sym (slice_range_split b s p (p + 1) order (omega arith)))
 
-    sizes : length h.before + (p + 1 - s) ≡ size
+    pub sizes : length h.before + (p + 1 - s) ≡ size
     sizes =
         let inside = slice_get_within b p 0 g in
         omega (arith, size_is, length_wire passed, ap length form, length-append h.before (slice_range b s (p + 1)), length-between b s (p + 1) (omega (arith, inside)))
@@ -83,7 +90,7 @@ module _ {b : List ℕ} {first p s limit : ℕ} {passed : List (List ℕ)} (h : 
           back = omega (arith, no_more, order, inside);
           form = rw (same, form, none, long, no_more, between_none, append-nil, here) refl;
         }
-    in_two head (inr (inl (here, others))) some =
+    in_two head (inr (inl (other, (here, others)))) some =
         let inside = slice_get_within b p 0 g in
         let long : head ≡ length h.before = omega (arith, others, sizes) in
         let end : s + (size - head) ≡ p + 1 = omega (arith, others, order) in
@@ -93,4 +100,4 @@ module _ {b : List ℕ} {first p s limit : ℕ} {passed : List (List ℕ)} (h : 
           back = omega (arith, end, inside);
           form = rw (same, form, end, long, ← h.piece here) refl;
         }
-    in_two head (inr (inr none)) some = absurd (omega (arith, none, some))
+    in_two head (inr (inr (other, (away, none)))) some = absurd (omega (arith, none, some))

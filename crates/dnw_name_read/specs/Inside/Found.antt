@@ -31,12 +31,15 @@ pub record IsInTwo (b : List ℕ) (p size head tail : ℕ) : Type 0 where
   pub back : tail + (size - head) ≤ length b
   pub form : slice_range b p (p + head) ++ slice_range b tail (tail + (size - head)) ≡ wire (labels_at b p)
 
--- Such a name, and its two pieces, if so many octets at p are known to be one. All are if no pointer is followed from there on.
+-- Such a name, and its two pieces, if so many octets at p are known to be one. They are if one pointer at most is followed from there
+-- on, and if none is, all octets are at p.
 pub record NameLiesAt (b : List ℕ) (p size count head tail : ℕ) : Type 0 where
   pub end : ℕ
   pub pointers : ℕ
   pub stands : StandsAt b p end size count pointers
   pub pieces : 1 ≤ head → IsInTwo b p size head tail
+  pub known : pointers ≤ 1 → 1 ≤ head
+  pub whole : pointers ≡ 0 → head ≡ size
 
 -- What a walk from p has found: the name, and where its first label is.
 pub record IsFound (b : List ℕ) (p : ℕ) (walked : Walked) (count pointers : ℕ) : Type 0 where

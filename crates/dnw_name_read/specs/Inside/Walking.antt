@@ -1,5 +1,5 @@
 -- How a walk over a name goes: what it knows between two elements.
-use Rattle.std.specs.Prelude.{◌≡◌, ◌⊎◌, ℕ, zero, suc, ◌+◌, ◌<◌, ◌≤◌, Option, Some, None, List, [], ◌++◌, length, slice_get, slice_range, unwrap_or}
+use Rattle.std.specs.Prelude.{◌≡◌, ◌≢◌, ◌⊎◌, ℕ, zero, suc, ◌+◌, ◌<◌, ◌≤◌, Option, Some, None, List, [], ◌++◌, length, slice_get, slice_range, unwrap_or}
 use Rattle.dnw_base.specs.declared.error.DecodeError.{DecodeError}
 use Rattle.dnw_name_read.specs.declared.walk.Element.{Element}
 use Rattle.dnw_name_read.specs.declared.walk.Element.TheVariants.{End, Label, Pointer}
@@ -29,6 +29,18 @@ abbrev pub IsElement : List ℕ → ℕ → ℕ → Element → Type 0
 IsElement b p s End = slice_get b p ≡ Some 0
 IsElement b p s (Label c) = IsLabelAt b p c
 IsElement b p s (Pointer t) = IsPointerAt b p s t
+
+-- a label begins at p
+pub record BeginsLabel (b : List ℕ) (p c : ℕ) : Type 0 where
+  pub octet : slice_get b p ≡ Some c
+  pub some : 1 ≤ c
+  pub few : c ≤ max_label
+
+-- an element begins at p; of a label the length octet alone is known to be there
+abbrev pub BeginsElement : List ℕ → ℕ → ℕ → Element → Type 0
+BeginsElement b p s End = slice_get b p ≡ Some 0
+BeginsElement b p s (Label c) = BeginsLabel b p c
+BeginsElement b p s (Pointer t) = IsPointerAt b p s t
 
 -- there is no element at p, whatever the limit is and whatever was read before
 abbrev pub IsNoElement : List ℕ → ℕ → ℕ → DecodeError → Type 0
@@ -69,13 +81,15 @@ pub record PassedOctets (b : List ℕ) (first p s limit : ℕ) (passed : List (L
   pub before : List ℕ
   pub octets : labels_wire passed ≡ before ++ slice_range b s p
   pub none : s ≡ first → before ≡ []
+  pub some : s ≢ first → 1 ≤ length before
   pub piece : limit ≡ first → before ≡ slice_range b first (first + length before)
   pub inside : limit ≡ first → first + length before ≤ length b
 
--- So many octets of a wire form are at first, if its last octets are in the segment that began at s: all, or those before them if the
--- segment before began there; or it is not known how many.
+-- So many octets of a wire form are at first, if its last octets are in the segment that began at s: all if it began there, or those
+-- before them if the segment before began there. In any other case it is not known how many.
 abbrev pub IsFirstPiece : ℕ → ℕ → ℕ → ℕ → ℕ → ℕ → Type 0
-IsFirstPiece first s limit size last head = ((s ≡ first) × (head ≡ size)) ⊎ ((limit ≡ first) × (head + last ≡ size)) ⊎ (head ≡ 0)
+IsFirstPiece first s limit size last head =
+    ((s ≡ first) × (head ≡ size)) ⊎ (((s ≢ first) × ((limit ≡ first) × (head + last ≡ size))) ⊎ ((s ≢ first) × ((limit ≢ first) × (head ≡ 0))))
 
 -- What a walk from start knows at p, with these counts: each reading and each fault from p on is one from the start.
 -- Before the first pointer the limit is the end of the message. After it the limit is the start of the segment before,
@@ -85,6 +99,8 @@ pub record WalksOn (b : List ℕ) (start first p s limit end size pointers label
   pub counts : WalkCounts b start p s limit size pointers labels passed
   pub whole : pointers ≡ 0 → limit ≡ length b
   pub leads : Leads b first p s (once_followed pointers limit) passed
+  pub here : leads.more ≡ 0 → s ≡ first
+  pub next : leads.more ≡ 1 → limit ≡ first
   pub written : PassedOctets b first p s limit passed
   pub goes_on : GoesOn b start p s (once_followed pointers limit) passed (λ e. unwrap_or (once_followed pointers end) e) pointers
   pub stops : (error : DecodeError) (k j : ℕ)
