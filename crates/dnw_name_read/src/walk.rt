@@ -53,6 +53,13 @@ pub fn walk(message: &[u8], start: usize, steps: &mut ReadSteps) -> Result<Walke
     ensures few_pointers { steps.new.pointers ≤ min start pointer_offsets }
     ensures few_labels { steps.new.labels ≤ max_labels + 1 }
 {
+    if start >= message.len() {
+        *steps = ReadSteps {
+            pointers: 0,
+            labels: 0,
+        };
+        return Err(DecodeError::InsufficientBytes);
+    }
     let mut fault = DecodeError::InsufficientBytes;
     match walk_elements(message, start, steps, &mut fault) {
         Some(walked) => Ok(walked),
@@ -60,7 +67,7 @@ pub fn walk(message: &[u8], start: usize, steps: &mut ReadSteps) -> Result<Walke
     }
 }
 
-/// Walks over the name at `start`. If it returns `None`, `fault` says why there is no name.
+/// Walks over the name at `start`, where there is an octet. If it returns `None`, `fault` says why there is no name.
 // The error is not part of the result, and all is inlined, since LLVM takes a large result apart, octet by octet.
 #[inline(always)]
 #[tactic(auto, using(crate::proofs::Walking::walking))]
@@ -70,16 +77,11 @@ fn walk_elements(
     steps: &mut ReadSteps,
     fault: &mut DecodeError,
 ) -> Option<Walked>
+    requires { start < length message.now }
     ensures some { IfSome result (λ walked. IsFound message.now start walked steps.new.labels steps.new.pointers) }
     ensures none { IfNone result (FaultAt message.now start fault.new steps.new.pointers steps.new.labels) }
 {
-    *steps = ReadSteps {
-        pointers: 0,
-        labels: 0,
-    };
-    if start >= message.len() {
-        return failed(fault, DecodeError::InsufficientBytes);
-    }
+    *steps = ReadSteps::default();
     let (mut position, mut segment, mut first) = (start, start, start);
     let (mut limit, mut end, mut size) = (message.len(), start, 1);
     'elements: loop {

@@ -1,16 +1,12 @@
 use Rattle.std.proofs.Common.{refl, add-zero, arith}
-use Rattle.dnw_name_read.specs.Reading.{no_octet}
 use Rattle.dnw_name_read.proofs.Pieces.{last_few}
 use Rattle.dnw_name_read.proofs.Walking.{WalksOn-end}
 use Rattle.dnw_name_read.proofs.walk.walk_elements.Goals as goal
 
-pub returns-then-start-message-clause-none : goal.returns-then-start-message-clause-none
-returns-then-start-message-clause-none c = rw (c.failed.ensures.none, c.failed.ensures.fault) (no_octet tt c.if-start-message.true)
-
 pub returns-in-Err-clause-none : goal.returns-in-Err-clause-none
 returns-in-Err-clause-none c =
     let stops = rw c.in-Err.is at c.begun_at.ensures.err in
-    rw (c.failed-in-Err.ensures.none, c.failed-in-Err.ensures.fault) (simp add-zero at (c.elements.invariant.walks.stops _ 0 0 (stops _ _ c.elements.invariant.within)))
+    rw (c.failed.ensures.none, c.failed.ensures.fault) (simp add-zero at (c.elements.invariant.walks.stops _ 0 0 (stops _ _ c.elements.invariant.within)))
 
 pub returns-in-Ok-End-clause-some : goal.returns-in-Ok-End-clause-some
 returns-in-Ok-End-clause-some c =
