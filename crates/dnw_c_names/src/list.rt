@@ -8,6 +8,8 @@ use dnw_name::name_ref::NameRef;
 use dnw_name_read::walk::ReadSteps;
 
 /// Reads the name at the cursor of a list. The pointers that it follows are taken from those that are `left`.
+// Inlined, since LLVM takes a large result that is returned through memory apart, octet by octet.
+#[inline(always)]
 pub(crate) fn next_name<'l>(
     decoder: &mut BinDecoder<'l>,
     left: &mut usize,

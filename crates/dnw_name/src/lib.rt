@@ -9,8 +9,9 @@
 //! BinDecoder { message, index }
 //!     |  Name::read, NameRef::read                                  dnw_name
 //!     v
-//! walk -- walk_elements -- begun_at -- pointer_at                   dnw_name_read
-//!     |               `-- last_label                                each rule of RFC 1035, section 4.1.4, is tested here
+//! walk -- walk_elements -- next_element -- element_at               dnw_name_read
+//!     |                                      |-- label_at
+//!     |                                      `-- pointer_at         each rule of RFC 1035, section 4.1.4, is tested here
 //!     v
 //! NameRef { message, first, size, labels, head, tail }              lends its labels: RefLabels::next
 //!     |  Name::read goes on: copied                                 one copy: in one piece if no pointer follows

@@ -7,4 +7,3 @@ pub mod Pieces
 pub mod Walking
 pub mod Takes
 pub mod Copying
-mod LastLabels

@@ -13,7 +13,6 @@ use Rattle.dnw_name_read.proofs.Counts.{length_label}
 use Rattle.dnw_name_read.proofs.Stand.{Reads_wider}
 use Rattle.dnw_name_read.proofs.Unique.{Reads_jump, Stops_jump}
 use Rattle.dnw_name_read.proofs.Found.{labels_at_NameAt, StandsAt_found}
-use Rattle.dnw_name_read.proofs.LastLabels.{within_limit}
 use Rattle.dnw_name_read.proofs.Pieces.{passed_none, passed_label, passed_jump, in_two, sizes}
 
 -- a walk begins at the start, in a segment with any limit
@@ -141,4 +140,4 @@ module _ {b : List ℕ} {start first p s limit end size pointers labels : ℕ} (
       (passed_jump h.written t (λ none. some (sym h.counts.size_is ∙ ap encoded_size none)) at.prior (omega (arith, h.leads.earlier)) h.counts.order (omega (arith, slice_get_within b p at.high at.first)))
 
 -- how a walk begins and goes on
-pub ruleset walking = (WalksOn_start, WalksOn-label, WalksOn-first, WalksOn-pointer, within_limit)
+pub ruleset walking = (WalksOn_start, WalksOn-label, WalksOn-first, WalksOn-pointer)

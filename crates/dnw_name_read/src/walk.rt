@@ -1,8 +1,8 @@
 //! The walk over the elements of a name in a message, which copies nothing (RFC 1035, section 4.1.4).
-ghost use Rattle.std.specs.Prelude.{◌≡◌, ◌⊎◌, ◌+◌, ◌<◌, ◌≤◌, min, length, slice_get, Some, None, unwrap_or, if◌then◌else◌, IfOk, IfErr, IfSome, IfNone};
+ghost use Rattle.std.specs.Prelude.{◌≡◌, ℕ, ◌+◌, ◌<◌, ◌≤◌, min, length, slice_get, Some, None, unwrap_or, IfOk, IfErr, IfSome, IfNone, OnOk};
 ghost use Rattle.dnw_name_read.specs.Reading.{IsWithin, Stops, FaultAt, target};
-ghost use Rattle.dnw_base.specs.Limits.{max_label, max_labels, max_name, pointer_bits, pointer_offsets};
-ghost use Rattle.dnw_name_read.specs.Inside.Walking.{BeginsElement, BeginsLabel, IsElement, IsFirstPiece, IsNoElement, once_followed};
+ghost use Rattle.dnw_base.specs.Limits.{max_label, max_labels, pointer_bits, pointer_offsets};
+ghost use Rattle.dnw_name_read.specs.Inside.Walking.{IsElement, IsFirstPiece, IsNoElement, once_followed};
 ghost use Rattle.dnw_name_read.specs.Inside.Found.{IsFound};
 
 use dnw_base::error::DecodeError;
@@ -53,13 +53,6 @@ pub fn walk(message: &[u8], start: usize, steps: &mut ReadSteps) -> Result<Walke
     ensures few_pointers { steps.new.pointers ≤ min start pointer_offsets }
     ensures few_labels { steps.new.labels ≤ max_labels + 1 }
 {
-    if start >= message.len() {
-        *steps = ReadSteps {
-            pointers: 0,
-            labels: 0,
-        };
-        return Err(DecodeError::InsufficientBytes);
-    }
     let mut fault = DecodeError::InsufficientBytes;
     match walk_elements(message, start, steps, &mut fault) {
         Some(walked) => Ok(walked),
@@ -67,7 +60,7 @@ pub fn walk(message: &[u8], start: usize, steps: &mut ReadSteps) -> Result<Walke
     }
 }
 
-/// Walks over the name at `start`, where there is an octet. If it returns `None`, `fault` says why there is no name.
+/// Walks over the name at `start`. If it returns `None`, `fault` says why there is no name.
 // The error is not part of the result, and all is inlined, since LLVM takes a large result apart, octet by octet.
 #[inline(always)]
 #[tactic(auto, using(crate::proofs::Walking::walking))]
@@ -77,7 +70,6 @@ fn walk_elements(
     steps: &mut ReadSteps,
     fault: &mut DecodeError,
 ) -> Option<Walked>
-    requires { start < length message.now }
     ensures some { IfSome result (λ walked. IsFound message.now start walked steps.new.labels steps.new.pointers) }
     ensures none { IfNone result (FaultAt message.now start fault.new steps.new.pointers steps.new.labels) }
 {
@@ -85,7 +77,7 @@ fn walk_elements(
     let (mut position, mut segment, mut first) = (start, start, start);
     let (mut limit, mut end, mut size) = (message.len(), start, 1);
     'elements: loop {
-        match begun_at(message, position, segment) {
+        match next_element(message, position, segment, limit, steps.pointers) {
             Err(error) => return failed(fault, error),
             Ok(Element::End) => {
                 return Some(Walked {
@@ -97,16 +89,12 @@ fn walk_elements(
                 });
             }
             Ok(Element::Label(len)) => {
-                let (next, more) = (position + 1 + len, size + 1 + len);
-                if next >= limit || more > MAX_NAME {
-                    let pointers = steps.pointers;
-                    let (found, error) = last_label(message, position, len, segment, limit, pointers, size);
-                    steps.labels += usize::from(found);
-                    return failed(fault, error);
-                }
                 steps.labels += 1;
-                size = more;
-                position = next;
+                size = size + 1 + len;
+                if size > MAX_NAME {
+                    return failed(fault, DecodeError::DomainNameTooLong(len));
+                }
+                position = position + 1 + len;
             }
             Ok(Element::Pointer(target)) => {
                 end = own_end(steps.pointers, end, position + 2);
@@ -154,63 +142,34 @@ fn own_end(pointers: usize, end: usize, here: usize) -> usize
     if pointers == 0 { here } else { end }
 }
 
-/// Says why reading stops at a label of `len` octets or after it, and whether its octets are there. It makes a name of so many octets too
-/// long, or no element may begin after it: the limit is there or before.
-#[inline(never)]
+/// Returns the element at an offset, in a segment that began at `segment`, if one may begin there. `limit` is the end of
+/// the message until a pointer is followed, and then the start of the segment before.
+#[inline(always)]
 #[tactic(auto, using(crate::proofs::Unique::stopping))]
-fn last_label(
+fn next_element(
     message: &[u8],
     position: usize,
-    len: usize,
     segment: usize,
     limit: usize,
     pointers: usize,
-    size: usize,
-) -> (bool, DecodeError)
-    requires within { IsWithin position (once_followed pointers limit) }
-    requires begun { BeginsLabel message.now position len }
-    requires last { (limit ≤ position + 1 + len) ⊎ (max_name < size + 1 + len) }
+) -> Result<Element, DecodeError>
     requires inside { limit ≤ length message.now }
     requires whole { pointers ≡ 0 → limit ≡ length message.now }
-    requires few { size ≤ max_name }
-    ensures { Stops message.now position segment (once_followed pointers limit) size result.1 0 (if result.0 then 1 else 0) }
+    ensures within { OnOk result (IsWithin position (once_followed pointers limit)) }
+    ensures there { OnOk result (position < length message.now) }
+    ensures ok { IfOk result (IsElement message.now position segment) }
+    ensures err { IfErr result (λ e. (n : ℕ) → Stops message.now position segment (once_followed pointers limit) n e 0 0) }
 {
-    let next = position + 1 + len;
-    if next > message.len() {
-        return (false, DecodeError::InsufficientBytes);
-    }
-    if size + 1 + len > MAX_NAME {
-        return (true, DecodeError::DomainNameTooLong(len));
+    if position < limit {
+        return element_at(message, position, segment);
     }
     if pointers == 0 {
-        return (true, DecodeError::InsufficientBytes);
+        return Err(DecodeError::InsufficientBytes);
     }
-    let overlap = DecodeError::LabelOverlapsWithOther {
+    Err(DecodeError::LabelOverlapsWithOther {
         label: segment,
         other: limit,
-    };
-    (true, overlap)
-}
-
-/// Returns the element that begins at an offset, in a segment that began at `segment`. The octets of a label need not be there.
-#[inline(always)]
-#[tactic(auto, using(crate::proofs::Unique::stopping))]
-fn begun_at(message: &[u8], position: usize, segment: usize) -> Result<Element, DecodeError>
-    requires { position < length message.now }
-    ensures ok { IfOk result (BeginsElement message.now position segment) }
-    ensures err { IfErr result (IsNoElement message.now position segment) }
-{
-    let octet = message[position];
-    if octet == 0 {
-        return Ok(Element::End);
-    }
-    if octet as usize <= MAX_LABEL {
-        return Ok(Element::Label(octet as usize));
-    }
-    if octet >= POINTER_BITS {
-        return pointer_at(message, position, segment, octet);
-    }
-    Err(DecodeError::UnrecognizedLabelCode(octet))
+    })
 }
 
 /// Returns the element at an offset, in a segment that began at `segment`.
@@ -221,12 +180,17 @@ pub fn element_at(message: &[u8], position: usize, segment: usize) -> Result<Ele
     ensures ok { IfOk result (IsElement message.now position segment) }
     ensures err { IfErr result (IsNoElement message.now position segment) }
 {
-    match begun_at(message, position, segment) {
-        Ok(Element::End) => Ok(Element::End),
-        Ok(Element::Label(len)) => label_at(message, position, segment, len),
-        Ok(Element::Pointer(target)) => Ok(Element::Pointer(target)),
-        Err(error) => Err(error),
+    let octet = message[position];
+    if octet == 0 {
+        return Ok(Element::End);
     }
+    if octet as usize <= MAX_LABEL {
+        return label_at(message, position, segment, octet as usize);
+    }
+    if octet >= POINTER_BITS {
+        return pointer_at(message, position, segment, octet);
+    }
+    Err(DecodeError::UnrecognizedLabelCode(octet))
 }
 
 /// Returns the label of `len` octets, 1 to 63, whose length octet is at `position`.

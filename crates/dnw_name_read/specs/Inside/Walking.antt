@@ -30,18 +30,6 @@ IsElement b p s End = slice_get b p ≡ Some 0
 IsElement b p s (Label c) = IsLabelAt b p c
 IsElement b p s (Pointer t) = IsPointerAt b p s t
 
--- a label begins at p
-pub record BeginsLabel (b : List ℕ) (p c : ℕ) : Type 0 where
-  pub octet : slice_get b p ≡ Some c
-  pub some : 1 ≤ c
-  pub few : c ≤ max_label
-
--- an element begins at p; of a label the length octet alone is known to be there
-abbrev pub BeginsElement : List ℕ → ℕ → ℕ → Element → Type 0
-BeginsElement b p s End = slice_get b p ≡ Some 0
-BeginsElement b p s (Label c) = BeginsLabel b p c
-BeginsElement b p s (Pointer t) = IsPointerAt b p s t
-
 -- there is no element at p, whatever the limit is and whatever was read before
 abbrev pub IsNoElement : List ℕ → ℕ → ℕ → DecodeError → Type 0
 IsNoElement b p s error = (n : ℕ) (limit : Option ℕ) → IsWithin p limit → Stops b p s limit n error 0 0
