@@ -39,8 +39,8 @@ pub returns-then-len-eq0-clause-none : goal.returns-then-len-eq0-clause-none
 returns-then-len-eq0-clause-none c =
     let at = rw c.split_at.ensures.back at c.plain_len-len.ensures in
     no_label _ _ _ c.labels.invariant.left c.labels-test.true (record { few = at.few; own = at.own; most = at.most }) (λ some inside dotted.
-        elim c.then-len-eq0.branch [
-          | then-len-eq0-via-then-len-eq0 w ↦ omega (arith, some, w.if-len-eq0.true)
-          | then-len-eq0-via-else-len-eq0+then-end-text w ↦ omega (arith, inside, w.if-end-text.true)
-          | then-len-eq0-via-else-len-eq0+else-end-text+then-text-end-ne46 w ↦ w.if-text-end-ne46.true dotted
-        ])
+    elim c.then-len-eq0.branch [
+      | then-len-eq0-via-then-len-eq0 w ↦ omega (arith, some, w.if-len-eq0.true)
+      | then-len-eq0-via-else-len-eq0+then-end-text w ↦ omega (arith, inside, w.if-end-text.true)
+      | then-len-eq0-via-else-len-eq0+else-end-text+then-text-end-ne46 w ↦ w.if-text-end-ne46.true dotted
+    ])
