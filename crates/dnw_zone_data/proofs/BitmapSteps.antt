@@ -49,7 +49,7 @@ all_spell shown left old new read a b h = h
 
 -- no number is an empty word
 pub bit_some : (shown : Shown) (w : List ℕ) (n : ℕ) → IsBitWord shown w n → 0 < length w
-bit_some Ports [] n is = let no : None ≡ Some n = is.1.0 in cc
+bit_some Ports [] n is = let no : None ≡ Some n = is.0 in cc
 bit_some OldTypes [] n is = word_some [] is.0 is.1
 bit_some shown [] n is = absurd is
 bit_some shown (c ∷ w) n is = omega arith

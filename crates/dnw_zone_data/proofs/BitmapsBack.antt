@@ -208,7 +208,7 @@ port_words : (ns : List ℕ) → AllByRecursion (IsBit Ports) ns → AreBitWords
 port_words [] h = refl
 port_words (n ∷ ns) h =
     let plain = port_plain n h.0 in
-    one_word Ports n ns (decimal n) (numbers_text Ports ns) plain (numbers_end Ports ns) (plain_utf8 (decimal n) plain.0, named_or service_named 65535 n (omega arith) (omega (arith, h.0))) (port_words ns h.1)
+    one_word Ports n ns (decimal n) (numbers_text Ports ns) plain (numbers_end Ports ns) (named_or service_named 65535 n (omega arith) (omega (arith, h.0))) (port_words ns h.1)
 
 type_words : (ns : List ℕ) → AllByRecursion (IsBit OldTypes) ns → AreBitWords OldTypes (numbers_text OldTypes ns) ns
 type_words [] h = refl
@@ -225,7 +225,7 @@ from_start shown text [] h = starts_twice text ∙ h
 from_start shown text (n ∷ ns) h = rw (starts_twice text) h
 
 no_bit : (shown : Shown) (n : ℕ) → IsBitWord shown generic_mark n → ⊥
-no_bit Ports n is = let no : None ≡ Some n = is.1.0 in cc
+no_bit Ports n is = let no : None ≡ Some n = is.0 in cc
 no_bit OldTypes n is = no_type is.0 is.1
 no_bit shown n is = is
 

@@ -71,19 +71,19 @@ pub u8_back : (n : ℕ) → n ≤ max_u8 → FieldComesBack U8 (u8 n)
 u8_back n few origin way printed rest print end =
     let plain = decimal_plain n (omega (arith, few)) in
     let some = decimal_nonempty n (omega (arith, few)) in
-    plain_by origin way U8 printed (decimal n) rest (u8 n) refl print plain some end.1 (n, plain_utf8 (decimal n) plain, in_any_form way max_u8 n (omega arith) few, refl)
+    plain_by origin way U8 printed (decimal n) rest (u8 n) refl print plain some end.1 (n, in_any_form way max_u8 n (omega arith) few, refl)
 
 pub u16_back : (n : ℕ) → n ≤ max_u16 → FieldComesBack U16 (u16 n)
 u16_back n few origin way printed rest print end =
     let plain = decimal_plain n (omega (arith, few)) in
     let some = decimal_nonempty n (omega (arith, few)) in
-    plain_by origin way U16 printed (decimal n) rest (u16 n) refl print plain some end.1 (n, plain_utf8 (decimal n) plain, in_any_form way max_u16 n (omega arith) few, refl)
+    plain_by origin way U16 printed (decimal n) rest (u16 n) refl print plain some end.1 (n, in_any_form way max_u16 n (omega arith) few, refl)
 
 pub u32_back : (n : ℕ) → n ≤ max_u32 → FieldComesBack U32 (u32 n)
 u32_back n few origin way printed rest print end =
     let plain = decimal_plain n (omega (arith, few)) in
     let some = decimal_nonempty n (omega (arith, few)) in
-    plain_by origin way U32 printed (decimal n) rest (u32 n) refl print plain some end.1 (n, plain_utf8 (decimal n) plain, in_any_form way max_u32 n (omega arith) few, refl)
+    plain_by origin way U32 printed (decimal n) rest (u32 n) refl print plain some end.1 (n, in_any_form way max_u32 n (omega arith) few, refl)
 
 digit_plain : (c : ℕ) → is_ascii_digit c ≡ true → is_plain c ≡ true
 digit_plain c h = grind arith
@@ -96,7 +96,7 @@ pub time_back : (n : ℕ) → n ≤ max_u32 → FieldComesBack Time (time n)
 time_back n few origin way printed rest print end =
     let (date, is, e) = print in
     let plain = digits_plain date is.digits.1 in
-    plain_by origin way Time printed date rest (time n) refl e plain (omega (arith, is.digits.0)) end.1 (n, plain_utf8 date plain, inl (is, few), refl)
+    plain_by origin way Time printed date rest (time n) refl e plain (omega (arith, is.digits.0)) end.1 (n, inl (is, few), refl)
 
 letter_plain : (c : ℕ) → is_ascii_alphanumeric c ≡ true → is_plain c ≡ true
 letter_plain c h = plain_by_tests c (grind arith) (grind arith) (grind arith) (grind arith) (grind arith) (grind arith) (grind arith)
@@ -109,7 +109,7 @@ pub tag_back : (tag : List ℕ) → FieldComesBack (Counted Tag) (counted tag)
 tag_back tag origin way printed rest print end =
     let (is, e) = print in
     let plain = letters_plain tag is.2 in
-    plain_by origin way (Counted Tag) printed tag rest (counted tag) refl e plain is.0 end.1 (tag, (plain_utf8 tag plain, (refl, is)), refl)
+    plain_by origin way (Counted Tag) printed tag rest (counted tag) refl e plain is.0 end.1 (tag, (refl, is), refl)
 
 salt_plain : (own : List ℕ) → IsOctets own → all_plain (salt_text own) ≡ true
 salt_plain [] h = refl
@@ -123,7 +123,7 @@ pub salt_back : (own : List ℕ) → IsSalt own → FieldComesBack (Counted Hex)
 salt_back own is origin way printed rest print end =
     let w = salt_text own in
     let plain = salt_plain own is.0 in
-    plain_by origin way (Counted Hex) printed w rest (counted own) refl print plain (salt_some own) end.1 (own, (plain_utf8 w plain, (salt own is).0), refl)
+    plain_by origin way (Counted Hex) printed w rest (counted own) refl print plain (salt_some own) end.1 (own, (salt own is).0, refl)
 
 name_plain : (record_type : RecordType) → all_plain (type_name record_type) ≡ true
 name_plain (rr.Unknown code) = refl
@@ -187,7 +187,7 @@ ipv4_back a is origin way printed rest print end =
     let o = ipv4_octets a in
     let w = ipv4_text o in
     let shape = dotted (slice_index o 0) (slice_index o 1) (slice_index o 2) (slice_index o 3) (is.1 0) (is.1 1) (is.1 2) (is.1 3) in
-    plain_by origin way Ipv4 printed w rest (ipv4 o) refl print shape.0 shape.1 end.1 (a, plain_utf8 w shape.0, IsDotted-ipv4_text _ is.0 is.1, refl)
+    plain_by origin way Ipv4 printed w rest (ipv4 o) refl print shape.0 shape.1 end.1 (a, IsDotted-ipv4_text _ is.0 is.1, refl)
 
 base32_plain : (c : ℕ) → is_base32 c ≡ true → is_plain c ≡ true
 base32_plain c h = plain_by_tests c (grind arith) (grind arith) (grind arith) (grind arith) (grind arith) (grind arith) (grind arith)
@@ -209,7 +209,7 @@ hash_back own is origin way printed rest print end =
     let w = base32_text own in
     let spells = (hash own is).0 in
     let plain = hash_plain w spells.0 in
-    plain_by origin way (Counted Base32Hex) printed w rest (counted own) refl print.1 plain (hash_some own is.1) end.1 (own, (plain_utf8 w plain, spells), refl)
+    plain_by origin way (Counted Base32Hex) printed w rest (counted own) refl print.1 plain (hash_some own is.1) end.1 (own, spells, refl)
 
 -- ---- all words
 
@@ -230,7 +230,7 @@ pub octets_back : (own : List ℕ) → IsOctets own → FieldComesBack (Octets H
 octets_back own is origin way printed rest print end =
     let none : rest ≡ [] = end.0 refl in
     let words = hex_words own is in
-    let reads : ReadsField origin way (Octets Hex) (after_spaces (hex_part own)) (octets own) [] = ((own, (words.0, words.1), refl), refl) in
+    let reads : ReadsField origin way (Octets Hex) (after_spaces (hex_part own)) (octets own) [] = ((own, words.0, refl), refl) in
     rw (none, print, append-nil) (reads, hex_no_mark own is, hex_end own)
 
 -- ---- words in quotes

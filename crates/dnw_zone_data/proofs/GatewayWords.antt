@@ -4,7 +4,6 @@ use Rattle.std.specs.Prelude.{Option, Result, Ok, Err}
 use Rattle.std.specs.Int.{w16, from_be_bytes, to_be_bytes}
 use Rattle.std.specs.Net.Addr.{ipv4_octets, ipv6_segments, octets_of}
 use Rattle.std.specs.Net.Grammar.{IsIpv4Text, IsIpv6Text}
-use Rattle.std.specs.Str.{IsUtf8}
 use Rattle.std.specs.declared.net.Ipv4Addr.{Ipv4Addr}
 use Rattle.std.specs.declared.net.Ipv6Addr.{Ipv6Addr}
 use Rattle.std.proofs.lemmas.List.{take_all}
@@ -30,21 +29,21 @@ pushes_as Is Of old new (Ok false) to from h = λ own is. h own (from own is)
 pushes_as Is Of old new (Err e) to from h = h
 
 abbrev pub IsEnd4 : List ℕ → List ℕ → Type 0
-IsEnd4 text own = (a : Ipv4Addr) × IsUtf8 text × IsIpv4Text text a × (own ≡ ipv4_octets a)
+IsEnd4 text own = (a : Ipv4Addr) × IsIpv4Text text a × (own ≡ ipv4_octets a)
 
 pub end4 : (origin : Option NameValue) (text own : List ℕ) → IsGatewayEnd origin 1 text own → IsEnd4 text own
 end4 origin text own (inl is) = absurd (omega (arith, is.0))
-end4 origin text own (inr (inl is)) = (is.1, is.2, is.3, is.4)
+end4 origin text own (inr (inl is)) = (is.1, is.2, is.3)
 end4 origin text own (inr (inr (inl is))) = absurd (omega (arith, is.0))
 end4 origin text own (inr (inr (inr is))) = absurd (omega (arith, is.0))
 
 abbrev pub IsEnd6 : List ℕ → List ℕ → Type 0
-IsEnd6 text own = (a : Ipv6Addr) × IsUtf8 text × IsIpv6Text text a × (own ≡ octets_of (ipv6_segments a))
+IsEnd6 text own = (a : Ipv6Addr) × IsIpv6Text text a × (own ≡ octets_of (ipv6_segments a))
 
 pub end6 : (origin : Option NameValue) (text own : List ℕ) → IsGatewayEnd origin 2 text own → IsEnd6 text own
 end6 origin text own (inl is) = absurd (omega (arith, is.0))
 end6 origin text own (inr (inl is)) = absurd (omega (arith, is.0))
-end6 origin text own (inr (inr (inl is))) = (is.1, is.2, is.3, is.4)
+end6 origin text own (inr (inr (inl is))) = (is.1, is.2, is.3)
 end6 origin text own (inr (inr (inr is))) = absurd (omega (arith, is.0))
 
 pub as_gateway : {E : Type 0} (origin : Option NameValue) (first second third old two new : List ℕ) (type algorithm : ℕ) (read : Result Bool E) → IsNumberText max_u8 first type
@@ -73,9 +72,9 @@ alone Is start items none (own, is, e) = subst Is (sym (e ∙ ap (λ (xs : List 
 
 pub no_identity : (first second third tag key : List ℕ) → SpellsOctets Hex second tag → SpellsOctets Base64 third key → ¬ (AreTagAndKey tag key)
     → (value : FieldValue) → ¬ (IsIdentity first second third value)
-no_identity first second third tag key hex base none value (algorithm, own, other, n, _, h, _, b, are, e) =
-    let same : own ≡ tag = one_hex second own tag h hex.1 in
-    let also : other ≡ key = one_base64 third other key b base.1 in
+no_identity first second third tag key hex base none value (algorithm, own, other, n, h, b, are, e) =
+    let same : own ≡ tag = one_hex second own tag h hex in
+    let also : other ≡ key = one_base64 third other key b base in
     none (subst (λ (k : List ℕ). AreTagAndKey tag k) also (subst (λ (t : List ℕ). AreTagAndKey t other) same are))
 
 -- ---- printing

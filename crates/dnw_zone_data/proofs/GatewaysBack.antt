@@ -34,7 +34,7 @@ use Rattle.dnw_zone_data.specs.DataTextLaws.{FieldComesBack, IsFieldReadBack}
 use Rattle.dnw_zone_data.proofs.FieldsBack.{dotted, octets_parts, plain_other}
 use Rattle.dnw_zone_data.proofs.LocationsBack.{location_back}
 use Rattle.dnw_zone_data.proofs.NamesBack.{name_is, name_len, name_starts}
-use Rattle.dnw_zone_data.proofs.Plain.{all_plain, decimal_plain, hex_plain, plain_after, plain_starts, plain_utf8, plain_word}
+use Rattle.dnw_zone_data.proofs.Plain.{all_plain, decimal_plain, hex_plain, plain_after, plain_starts, plain_word}
 use Rattle.dnw_zone_data.proofs.WordsBack.{ipv6_some}
 
 -- ---- words
@@ -124,7 +124,7 @@ end_back origin type own text h (inr (inl (t, four, e))) =
     let a : Ipv4Addr = record { octets = own } in
     let shape = dotted (slice_index own 0) (slice_index own 1) (slice_index own 2) (slice_index own 3) (h 0) (h 1) (h 2) (h 3) in
     let plain : all_plain (ipv4_text own) ≡ true = shape.0 in
-    rw e (plain_one (ipv4_text own) plain shape.1, inr (inl (t, a, plain_utf8 (ipv4_text own) plain, IsDotted-ipv4_text own four h, refl)))
+    rw e (plain_one (ipv4_text own) plain shape.1, inr (inl (t, a, IsDotted-ipv4_text own four h, refl)))
 end_back origin type own text h (inr (inr (inl (t, sixteen, e)))) =
     let segments = segments_of own in
     let a : Ipv6Addr = record { segments = segments } in
@@ -132,7 +132,7 @@ end_back origin type own text h (inr (inr (inl (t, sixteen, e)))) =
     let fits = segments_fit own h in
     let plain : all_plain (ipv6_text segments) ≡ true = bare_open (ipv6_text segments) (ipv6_bare segments fits) in
     let is = IsColonHex-ipv6_text segments eight fits in
-    rw e (plain_one (ipv6_text segments) plain (ipv6_some a is), inr (inr (inl (t, a, plain_utf8 (ipv6_text segments) plain, is, same))))
+    rw e (plain_one (ipv6_text segments) plain (ipv6_some a is), inr (inr (inl (t, a, is, same))))
 end_back origin type own text h (inr (inr (inr (t, labels, are, e, f)))) =
     let fit = wire_labels_fit labels (subst IsOctets e h) in
     rw f (name_one labels are fit, inr (inr (inr (t, labels, name_is origin labels are fit, e))))
@@ -195,9 +195,7 @@ identity_back own h origin way printed rest (algorithm, tag, key, are, e, p) end
       tag,
       key,
       octet_is max_u8 algorithm (omega arith) (omega (arith, octet)),
-      plain_utf8 (hex_text tag) hex,
       (hexadecimal tag parts.0).0,
-      plain_utf8 (base64_text key) base64,
       (parts.1, refl),
       are,
       ap (of_shape HostIdentity) e,

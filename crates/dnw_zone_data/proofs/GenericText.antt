@@ -8,25 +8,25 @@ use Rattle.dnw_zone_values.proofs.HexText.{hex_text_nil}
 use Rattle.dnw_zone_data.specs.Words.{is_end, after_spaces, after_word, without_spaces}
 use Rattle.dnw_zone_data.specs.Generic.{hex_part, generic_text, AreHexWords, IsSized, IsGeneric}
 use Rattle.dnw_zone_data.specs.DataTextLaws.{GenericComesBack, IsDataOctets}
-use Rattle.dnw_zone_data.proofs.Plain.{plain_starts, plain_word, plain_after, plain_joined, plain_utf8, decimal_plain, hex_plain}
+use Rattle.dnw_zone_data.proofs.Plain.{plain_starts, plain_word, plain_after, plain_joined, decimal_plain, hex_plain}
 
 -- octets in one way at most
 pub one_sized : (left a b : List ℕ) → IsSized left a → IsSized left b → a ≡ b
-one_sized left a b h k = let e : Ok a ≡ Ok b = sym h.2.1 ∙ k.2.1 in cc
+one_sized left a b h k = let e : Ok a ≡ Ok b = sym h.2.0 ∙ k.2.0 in cc
 
 pub one_generic : (text a b : List ℕ) → IsGeneric text a → IsGeneric text b → a ≡ b
 one_generic text a b h k = one_sized (after_word (after_spaces text)) a b h.1 k.1
 
 -- a number, and what is after it
 pub hex_words : (octets : List ℕ) → IsOctets octets → AreHexWords (length octets) (after_spaces (hex_part octets)) octets
-hex_words [] h = (plain_utf8 [] refl, sym (ap decode_of hex_text_nil) ∙ (hexadecimal [] h).0, refl)
+hex_words [] h = (sym (ap decode_of hex_text_nil) ∙ (hexadecimal [] h).0, refl)
 hex_words (o ∷ octets) h =
     let text = hex_text (o ∷ octets) in
     let plain = hex_plain (o ∷ octets) h in
     let some : 0 < length text = omega (arith, length-encode_with upper_digits (o ∷ octets)) in
     let starts : after_spaces text ≡ text = ap after_spaces (sym (append-nil text)) ∙ plain_starts text [] plain some ∙ append-nil text in
     let whole : without_spaces (after_spaces text) ≡ text = ap without_spaces starts ∙ plain_joined text plain in
-    rw whole (plain_utf8 text plain, (hexadecimal (o ∷ octets) h).0, refl)
+    rw whole ((hexadecimal (o ∷ octets) h).0, refl)
 
 pub hex_end : (octets : List ℕ) → is_end (hex_part octets) ≡ true
 hex_end [] = refl
@@ -41,7 +41,7 @@ sized octets own =
     let is = (numbers 65535 (omega arith) n own.1).0 in
     let starts : after_spaces (number ++ hex_part octets) ≡ number ++ hex_part octets = plain_starts number (hex_part octets) plain is.0.0 in
     rw (starts, plain_word number (hex_part octets) plain (hex_end octets), plain_after number (hex_part octets) plain (hex_end octets))
-    (n, (plain_utf8 number plain, is), hex_words octets own.0)
+    (n, is, hex_words octets own.0)
 
 pub generic : GenericComesBack
 generic octets own =

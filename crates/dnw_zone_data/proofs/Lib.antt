@@ -40,4 +40,5 @@ pub mod Lengths
 pub mod Pushed
 pub mod NamesRead
 pub mod WordParts
+mod UsualWords
 mod Marks

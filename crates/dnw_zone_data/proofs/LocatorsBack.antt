@@ -11,7 +11,7 @@ use Rattle.std.proofs.lemmas.Fmt.{decimal_is_IsNumeral}
 use Rattle.dnw_zone_values.proofs.LocatorsBack.{locator_back, one_locator}
 use Rattle.dnw_zone_values.proofs.NsapBack.{nsap_back}
 use Rattle.dnw_zone_data.specs.Locators.{max_u64, IsLocatorField, IsNodeNumber, IsNsapField}
-use Rattle.dnw_zone_data.proofs.Plain.{is_plain, all_plain, all_places, places_at, plain_append, plain_utf8, decimal_plain}
+use Rattle.dnw_zone_data.proofs.Plain.{is_plain, all_plain, all_places, places_at, plain_append}
 
 -- ---- locators
 
@@ -33,20 +33,20 @@ locator_plain n h =
     (plain_append (group_text c) (58 ∷ group_text d) (group_plain c (omega arith)) (group_plain d (omega arith))))
 
 pub locator_read : (n : ℕ) → n < 18446744073709551616 → IsLocatorField (locator_text n) (u64 n)
-locator_read n h = (n, plain_utf8 (locator_text n) (locator_plain n h), (locator_back n h).0, refl)
+locator_read n h = (n, (locator_back n h).0, refl)
 
 pub one_locator_field : (text : List ℕ) (v w : FieldValue) → IsLocatorField text v → IsLocatorField text w → v ≡ w
-one_locator_field text v w x y = x.3 ∙ ap u64 (one_locator text x.0 y.0 x.2 y.2) ∙ sym y.3
+one_locator_field text v w x y = x.2 ∙ ap u64 (one_locator text x.0 y.0 x.1 y.1) ∙ sym y.2
 
 -- ---- numbers of nodes
 
 pub node_read : (n : ℕ) → n < 18446744073709551616 → IsNodeNumber (decimal n) (u64 n)
 node_read n h =
     let numeral = decimal_is_IsNumeral n h in
-    (n, plain_utf8 (decimal n) (decimal_plain n h), (numeral.0, numeral.1, omega (arith, h)), refl)
+    (n, (numeral.0, numeral.1, omega (arith, h)), refl)
 
 pub one_node_number : (text : List ℕ) (v w : FieldValue) → IsNodeNumber text v → IsNodeNumber text w → v ≡ w
-one_node_number text v w x y = x.3 ∙ ap u64 (sym x.2.1 ∙ y.2.1) ∙ sym y.3
+one_node_number text v w x y = x.2 ∙ ap u64 (sym x.1.1 ∙ y.1.1) ∙ sym y.2
 
 -- ---- addresses of NSAP
 

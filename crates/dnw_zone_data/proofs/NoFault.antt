@@ -36,7 +36,7 @@ no_fault origin count len ways (kind ∷ kinds) left (v ∷ values) e (rest, rea
 sized_fails : (len : ℕ) (left own : List ℕ) (e : DataTextError) → IsSized left own → FailsSized len left e → e ≡ Memory
 sized_fails len left own e (n, size, are) (inl none) = absurd (none.0 n size)
 sized_fails len left own e (n, size, are) (inr (inl (m, also, none, is))) =
-    let same : n ≡ m = sym size.1.1 ∙ also.1.1 in
+    let same : n ≡ m = sym size.1 ∙ also.1 in
     absurd (none own (subst (λ (k : ℕ). AreHexWords k (after_spaces (after_word (after_spaces left))) own) same are))
 sized_fails len left own e (n, size, are) (inr (inr memory)) = memory.3
 

@@ -69,9 +69,9 @@ one_salt text a b (inr x) (inr y) = one_hex text a b x.0 y.0
 
 one_spelled : (shown : Shown) (text a b : List ℕ) → SpellsShown shown text a → SpellsShown shown text b → a ≡ b
 one_spelled Text text a b x y = one_within 255 text a b x y
-one_spelled Tag text a b x y = sym x.1.0 ∙ y.1.0
-one_spelled Hex text a b x y = one_salt text a b x.1 y.1
-one_spelled Base32Hex text a b x y = same_Some a b (sym x.1.1 ∙ y.1.1)
+one_spelled Tag text a b x y = sym x.0 ∙ y.0
+one_spelled Hex text a b x y = one_salt text a b x y
+one_spelled Base32Hex text a b x y = same_Some a b (sym x.1 ∙ y.1)
 one_spelled Base64 text a b x y = absurd x
 one_spelled MaybeBase64 text a b x y = absurd x
 one_spelled Nsap text a b x y = absurd x
@@ -105,15 +105,15 @@ one_in_form Scheme max text m n x y = one_or_name scheme_named max text m n x y
 one_in_form Protocol max text m n x y = one_or_name protocol_named max text m n x y
 
 one_number : (way : NumberForm) (max : ℕ) (field : ℕ → FieldValue) (text : List ℕ) (v w : FieldValue) → IsNumber way max field text v → IsNumber way max field text w → v ≡ w
-one_number way max field text v w x y = x.3 ∙ ap field (one_in_form way max text x.0 y.0 x.2 y.2) ∙ sym y.3
+one_number way max field text v w x y = x.2 ∙ ap field (one_in_form way max text x.0 y.0 x.1 y.1) ∙ sym y.2
 
 one_identifier : (size : ℕ) (field : List ℕ → FieldValue) (text : List ℕ) (v w : FieldValue) → IsIdentifierField size field text v → IsIdentifierField size field text w → v ≡ w
-one_identifier size field text v w x y = x.4 ∙ ap field (same_Some x.0 y.0 (sym x.2 ∙ y.2)) ∙ sym y.4
+one_identifier size field text v w x y = x.3 ∙ ap field (same_Some x.0 y.0 (sym x.1 ∙ y.1)) ∙ sym y.3
 
 one_word_lem : (origin : Option NameValue) (way : NumberForm) (kind : Kind) (text : List ℕ) (v w : FieldValue) → IsWord origin way kind text v → IsWord origin way kind text w → v ≡ w
 one_word_lem origin way (kinds.Name form) text v w x y = x.2 ∙ ap name (same_Some x.0 y.0 (sym x.1 ∙ y.1)) ∙ sym y.2
-one_word_lem origin way kinds.Ipv4 text v w x y = x.3 ∙ ap (λ (a : Ipv4Addr). ipv4 (ipv4_octets a)) (IsIpv4Text_unique text x.0 y.0 x.2 y.2) ∙ sym y.3
-one_word_lem origin way kinds.Ipv6 text v w x y = x.3 ∙ ap (λ (a : Ipv6Addr). ipv6 (ipv6_segments a)) (IsIpv6Text_unique text x.0 y.0 x.2 y.2) ∙ sym y.3
+one_word_lem origin way kinds.Ipv4 text v w x y = x.2 ∙ ap (λ (a : Ipv4Addr). ipv4 (ipv4_octets a)) (IsIpv4Text_unique text x.0 y.0 x.1 y.1) ∙ sym y.2
+one_word_lem origin way kinds.Ipv6 text v w x y = x.2 ∙ ap (λ (a : Ipv6Addr). ipv6 (ipv6_segments a)) (IsIpv6Text_unique text x.0 y.0 x.1 y.1) ∙ sym y.2
 one_word_lem origin way kinds.TypeCode text v w x y = x.2 ∙ ap type_code (same_Some x.0 y.0 (sym x.1.1 ∙ y.1.1)) ∙ sym y.2
 one_word_lem origin way kinds.U48 text v w x y = one_identifier 6 eui48 text v w x y
 one_word_lem origin way kinds.U64 text v w x y = one_identifier 8 eui64 text v w x y
@@ -124,7 +124,7 @@ one_word_lem origin way (kinds.Octets shown) text v w x y = absurd x
 one_word_lem origin way kinds.U8 text v w x y = one_number way 255 u8 text v w x y
 one_word_lem origin way kinds.U16 text v w x y = one_number way 65535 u16 text v w x y
 one_word_lem origin way kinds.U32 text v w x y = one_number way 4294967295 u32 text v w x y
-one_word_lem origin way kinds.Time text v w x y = x.3 ∙ ap time (one_time text x.0 y.0 x.2 y.2) ∙ sym y.3
+one_word_lem origin way kinds.Time text v w x y = x.2 ∙ ap time (one_time text x.0 y.0 x.1 y.1) ∙ sym y.2
 one_word_lem origin way kinds.LongTime text v w x y = absurd x
 one_word_lem origin way kinds.ChaosAddress text v w x y = absurd x
 one_word_lem origin way kinds.Locator text v w x y = one_locator_field text v w x y
@@ -157,7 +157,7 @@ one_names origin left (s ∷ a) (t ∷ b) x y =
     ap (λ (labels : List (List ℕ)). labels ∷ a) (same_Some s t (sym x.1 ∙ y.1)) ∙ ap (λ (rest : List (List (List ℕ))). t ∷ rest) (one_names origin (after_word (after_spaces left)) a b x.2 y.2)
 
 one_bit : (shown : Shown) (text : List ℕ) (m n : ℕ) → IsBitWord shown text m → IsBitWord shown text n → m ≡ n
-one_bit Ports text m n x y = one_or_name service_named 65535 text m n x.1 y.1
+one_bit Ports text m n x y = one_or_name service_named 65535 text m n x y
 one_bit OldTypes text m n (a, x, e, _, _) (b, y, f, _, _) = e ∙ ap code_of (same_Some a b (sym x.1 ∙ y.1)) ∙ sym f
 one_bit shown text m n x y = absurd x
 
@@ -179,8 +179,8 @@ one_whole Location left v w x y = one_location left v w x y
 one_whole shape left v w x y = absurd x
 
 one_list : (origin : Option NameValue) (kind : Kind) (left : List ℕ) (v w : FieldValue) → IsOctets (field_wire v) → IsOctets (field_wire w) → AreAll origin kind left v → AreAll origin kind left w → v ≡ w
-one_list origin (kinds.Octets Hex) left v w hv hw x y = x.2 ∙ ap octets (one_hex (without_spaces left) x.0 y.0 x.1.1 y.1.1) ∙ sym y.2
-one_list origin (kinds.Octets Base64) left v w hv hw x y = x.2 ∙ ap octets (one_base64 (without_spaces left) x.0 y.0 x.1.1 y.1.1) ∙ sym y.2
+one_list origin (kinds.Octets Hex) left v w hv hw x y = x.2 ∙ ap octets (one_hex (without_spaces left) x.0 y.0 x.1 y.1) ∙ sym y.2
+one_list origin (kinds.Octets Base64) left v w hv hw x y = x.2 ∙ ap octets (one_base64 (without_spaces left) x.0 y.0 x.1 y.1) ∙ sym y.2
 one_list origin (kinds.Octets Ports) left v w hv hw x y = x.2 ∙ ap octets (one_bits Ports left x.0 y.0 x.1 y.1) ∙ sym y.2
 one_list origin (kinds.Octets OldTypes) left v w hv hw x y = x.2 ∙ ap octets (one_bits OldTypes left x.0 y.0 x.1 y.1) ∙ sym y.2
 one_list origin (kinds.Octets shown) left v w hv hw x y = absurd x.1
@@ -207,13 +207,13 @@ one_end origin type text a b (inl x) (inr (inl y)) = absurd (omega (arith, x.0, 
 one_end origin type text a b (inl x) (inr (inr (inl y))) = absurd (omega (arith, x.0, y.0))
 one_end origin type text a b (inl x) (inr (inr (inr y))) = absurd (omega (arith, x.0, y.0))
 one_end origin type text a b (inr (inl x)) (inl y) = absurd (omega (arith, x.0, y.0))
-one_end origin type text a b (inr (inl x)) (inr (inl y)) = x.4 ∙ ap ipv4_octets (IsIpv4Text_unique text x.1 y.1 x.3 y.3) ∙ sym y.4
+one_end origin type text a b (inr (inl x)) (inr (inl y)) = x.3 ∙ ap ipv4_octets (IsIpv4Text_unique text x.1 y.1 x.2 y.2) ∙ sym y.3
 one_end origin type text a b (inr (inl x)) (inr (inr (inl y))) = absurd (omega (arith, x.0, y.0))
 one_end origin type text a b (inr (inl x)) (inr (inr (inr y))) = absurd (omega (arith, x.0, y.0))
 one_end origin type text a b (inr (inr (inl x))) (inl y) = absurd (omega (arith, x.0, y.0))
 one_end origin type text a b (inr (inr (inl x))) (inr (inl y)) = absurd (omega (arith, x.0, y.0))
 one_end origin type text a b (inr (inr (inl x))) (inr (inr (inl y))) =
-    x.4 ∙ ap (λ (address : Ipv6Addr). octets_of (ipv6_segments address)) (IsIpv6Text_unique text x.1 y.1 x.3 y.3) ∙ sym y.4
+    x.3 ∙ ap (λ (address : Ipv6Addr). octets_of (ipv6_segments address)) (IsIpv6Text_unique text x.1 y.1 x.2 y.2) ∙ sym y.3
 one_end origin type text a b (inr (inr (inl x))) (inr (inr (inr y))) = absurd (omega (arith, x.0, y.0))
 one_end origin type text a b (inr (inr (inr x))) (inl y) = absurd (omega (arith, x.0, y.0))
 one_end origin type text a b (inr (inr (inr x))) (inr (inl y)) = absurd (omega (arith, x.0, y.0))
@@ -237,7 +237,7 @@ one_relay origin first second third v w (d, t, own, hd, ht, end, e) (c, u, other
     e ∙ ap (of_shape Relay) octets ∙ sym f
 
 one_identity : (first second third : List ℕ) (v w : FieldValue) → IsIdentity first second third v → IsIdentity first second third w → v ≡ w
-one_identity first second third v w (g, tag, key, hg, _, hex, _, base, are, e) (k, tag2, key2, hk, _, hex2, _, base2, are2, f) =
+one_identity first second third v w (g, tag, key, hg, hex, base, are, e) (k, tag2, key2, hk, hex2, base2, are2, f) =
     let algorithm : g ≡ k = sym hg.1 ∙ hk.1 in
     let tags : tag ≡ tag2 = one_hex second tag tag2 hex hex2 in
     let keys : key ≡ key2 = one_base64 third key key2 base base2 in

@@ -23,7 +23,7 @@ use Rattle.dnw_zone_data.specs.Parsing.{AllSpell, ReadsField}
 use Rattle.dnw_zone_data.specs.Generic.{generic_mark}
 use Rattle.dnw_zone_data.specs.Printing.{base64_part}
 use Rattle.dnw_zone_data.specs.DataTextLaws.{FieldComesBack}
-use Rattle.dnw_zone_data.proofs.Plain.{is_plain, all_plain, plain_starts, plain_joined, plain_utf8}
+use Rattle.dnw_zone_data.proofs.Plain.{is_plain, all_plain, plain_starts, plain_joined}
 use Rattle.dnw_zone_data.proofs.FieldsBack.{plain_by, plain_no_mark}
 
 -- ---- IPv6 addresses
@@ -41,7 +41,7 @@ pub ipv6_back : (a : Ipv6Addr) → IsIpv6Addr a → FieldComesBack Ipv6 (ipv6 (i
 ipv6_back a is origin way printed rest print end =
     let w = ipv6_text (ipv6_segments a) in
     let plain : all_plain w ≡ true = bare_open w (ipv6_bare (ipv6_segments a) is.1) in
-    plain_by origin way Ipv6 printed w rest (ipv6 (ipv6_segments a)) refl print plain (ipv6_some a (IsColonHex-ipv6_text _ is.0 is.1)) end.1 (a, plain_utf8 w plain, IsColonHex-ipv6_text _ is.0 is.1, refl)
+    plain_by origin way Ipv6 printed w rest (ipv6 (ipv6_segments a)) refl print plain (ipv6_some a (IsColonHex-ipv6_text _ is.0 is.1)) end.1 (a, IsColonHex-ipv6_text _ is.0 is.1, refl)
 
 -- ---- identifiers
 
@@ -78,7 +78,7 @@ eui48_back n few origin way printed rest print end =
     let a : n / 72057594037927936 % 256 ≡ 0 = omega (arith, few) in
     let b : n / 281474976710656 % 256 ≡ 0 = omega (arith, few) in
     let back : from_be_bytes w64 (0 ∷ 0 ∷ own) ≡ n = ap (from_be_bytes w64) (lead _ _ own a b) ∙ from_be_bytes-to_be_bytes_8 n (omega (arith, few)) in
-    plain_by origin way U48 printed w rest (u48 n) refl print plain (omega arith) end.1 (own, plain_utf8 w plain, (pairs own (six_fit n, omega arith)).0, refl, ap u48 (sym back))
+    plain_by origin way U48 printed w rest (u48 n) refl print plain (omega arith) end.1 (own, (pairs own (six_fit n, omega arith)).0, refl, ap u48 (sym back))
 
 pub eui64_back : (n : ℕ) → n < 2 ^ 64 → FieldComesBack U64 (u64 n)
 eui64_back n few origin way printed rest print end =
@@ -87,18 +87,18 @@ eui64_back n few origin way printed rest print end =
     let fit = eight_fit n in
     let plain = pairs_plain own fit in
     plain_by origin way U64 printed w rest (u64 n) refl print plain (omega arith) end.1
-    (own, plain_utf8 w plain, (pairs own (fit, omega arith)).0, refl, ap u64 (sym (from_be_bytes-to_be_bytes_8 n few)))
+    (own, (pairs own (fit, omega arith)).0, refl, ap u64 (sym (from_be_bytes-to_be_bytes_8 n few)))
 
 -- ---- octets in base 64
 
 base64_words : (own : List ℕ) → IsOctets own → AllSpell Base64 (after_spaces (base64_part own)) own
-base64_words [] h = (plain_utf8 [] refl, (h, sym (encode_of-nil standard)))
+base64_words [] h = (h, sym (encode_of-nil standard))
 base64_words (o ∷ own) h =
     let text = base64_text (o ∷ own) in
     let plain : all_plain text ≡ true = base64_open (o ∷ own) h in
     let starts : after_spaces text ≡ text = ap after_spaces (sym (append-nil text)) ∙ plain_starts text [] plain (base64_some o own) ∙ append-nil text in
     let whole : without_spaces (after_spaces text) ≡ text = ap without_spaces starts ∙ plain_joined text plain in
-    rw whole (plain_utf8 text plain, (h, refl))
+    rw whole (h, refl)
 
 base64_no_mark : (own : List ℕ) → IsOctets own → word (after_spaces (base64_part own)) ≢ generic_mark
 base64_no_mark [] h e = cc

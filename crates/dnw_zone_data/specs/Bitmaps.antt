@@ -3,7 +3,6 @@
 -- when they are parsed, and ascending when they are printed. A bitmap has no zero octets at its end.
 use Rattle.std.specs.Prelude.{ℕ, ◌≡◌, ◌≢◌, ◌≤◌, ◌+◌, ◌/◌, ◌%◌, ◌&&◌, Bool, true, false, nat_le, nat_lt, List, [], ◌∷◌, length, slice_index, slice_set, flat_map, decimal}
 use Rattle.std.specs.Int.Bits.{bit_or}
-use Rattle.std.specs.Str.{IsUtf8}
 use Rattle.dnw_base.specs.declared.record_type.RecordType.{RecordType}
 use Rattle.dnw_base.specs.RecordTypes.{type_code}
 use Rattle.dnw_data.specs.declared.kind.Shown.{Shown}
@@ -37,7 +36,7 @@ with_numbers (n ∷ ns) own = with_numbers ns (with_number n own)
 
 -- a word is a port: its number, or the name of a service
 abbrev pub IsPortWord : List ℕ → ℕ → Type 0
-IsPortWord text n = IsUtf8 text × IsNumberOrName service_named max_u16 text n
+IsPortWord text n = IsNumberOrName service_named max_u16 text n
 
 -- a word is a type that such a bitmap has; type 0 stands for another format
 abbrev pub IsOldTypeWord : List ℕ → ℕ → Type 0

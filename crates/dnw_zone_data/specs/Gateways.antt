@@ -5,7 +5,6 @@ use Rattle.std.specs.Int.{w16, to_be_bytes}
 use Rattle.std.specs.Net.Addr.{ipv4_octets, ipv6_segments, octets_of, segments_of}
 use Rattle.std.specs.Net.Grammar.{IsIpv4Text, IsIpv6Text}
 use Rattle.std.specs.Net.Text.{ipv4_text, ipv6_text}
-use Rattle.std.specs.Str.{IsUtf8}
 use Rattle.std.specs.declared.net.Ipv4Addr.{Ipv4Addr}
 use Rattle.std.specs.declared.net.Ipv6Addr.{Ipv6Addr}
 use Rattle.dnw_base.specs.Limits.{max_data}
@@ -82,8 +81,8 @@ PrintsShaped shape own text = ⊥
 abbrev pub IsGatewayEnd : Option NameValue → ℕ → List ℕ → List ℕ → Type 0
 IsGatewayEnd origin type text own =
     ((type ≡ 0) × (text ≡ codes ".") × (own ≡ []))
-    ⊎ ((type ≡ 1) × (a : Ipv4Addr) × IsUtf8 text × IsIpv4Text text a × (own ≡ ipv4_octets a))
-    ⊎ ((type ≡ 2) × (a : Ipv6Addr) × IsUtf8 text × IsIpv6Text text a × (own ≡ octets_of (ipv6_segments a)))
+    ⊎ ((type ≡ 1) × (a : Ipv4Addr) × IsIpv4Text text a × (own ≡ ipv4_octets a))
+    ⊎ ((type ≡ 2) × (a : Ipv6Addr) × IsIpv6Text text a × (own ≡ octets_of (ipv6_segments a)))
     ⊎ ((type ≡ 3) × (labels : List (List ℕ)) × (named_at origin text ≡ Some labels) × (own ≡ wire labels))
 
 -- words are the type of a gateway, an algorithm and the gateway
@@ -101,7 +100,7 @@ IsRelay origin first second third value =
 -- words are an algorithm, a tag in hexadecimal and a key in base 64
 abbrev pub IsIdentity : List ℕ → List ℕ → List ℕ → FieldValue → Type 0
 IsIdentity first second third value =
-    (algorithm : ℕ) × (tag : List ℕ) × (key : List ℕ) × IsNumberText max_u8 first algorithm × IsUtf8 second × IsHexText second tag × IsUtf8 third × IsBase64Text third key
+    (algorithm : ℕ) × (tag : List ℕ) × (key : List ℕ) × IsNumberText max_u8 first algorithm × IsHexText second tag × IsBase64Text third key
     × AreTagAndKey tag key × (value ≡ of_shape HostIdentity (identity_wire algorithm tag key))
 
 -- all words are a field of a shape

@@ -1,6 +1,5 @@
 -- The form that any data have (RFC 3597, section 5): `\#`, the number of octets, and the octets in hexadecimal.
 use Rattle.std.specs.Prelude.{◌≡◌, ◌≤◌, ℕ, ◌-◌, ◌⊎◌, List, [], ◌∷◌, ◌++◌, length, codes, decimal}
-use Rattle.std.specs.Str.{IsUtf8}
 use Rattle.dnw_zone_values.specs.Octets.{hex_text, IsHexText}
 use Rattle.dnw_zone_values.specs.Numbers.{IsNumberText}
 use Rattle.dnw_zone_data.specs.declared.error.DataTextError.{DataTextError}
@@ -24,11 +23,11 @@ generic_text octets = generic_mark ++ 32 ∷ decimal (length octets) ++ hex_part
 
 -- a word is this number of octets
 abbrev pub IsSize : List ℕ → ℕ → Type 0
-IsSize size n = IsUtf8 size × IsNumberText max_data size n
+IsSize size n = IsNumberText max_data size n
 
 -- words are so many octets in hexadecimal
 abbrev pub AreHexWords : ℕ → List ℕ → List ℕ → Type 0
-AreHexWords n words octets = IsUtf8 (without_spaces words) × IsHexText (without_spaces words) octets × (length octets ≡ n)
+AreHexWords n words octets = IsHexText (without_spaces words) octets × (length octets ≡ n)
 
 -- what is after the number
 abbrev pub hex_words : List ℕ → List ℕ

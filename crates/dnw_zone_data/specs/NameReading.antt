@@ -1,6 +1,6 @@
 -- Which fully qualified names texts give in data (RFC 1035, section 5.1).
 use Rattle.std.specs.Prelude.{◌≡◌, ℕ, Bool, true, false, if◌then◌else◌, List, ◌++◌, Option, Some, None, Ok, Err}
-use Rattle.dnw_base.specs.Names.{NameValue, wire}
+use Rattle.dnw_base.specs.Names.{AreLabels, NameValue, wire}
 use Rattle.dnw_name_text.specs.NameReading.{Parsed, name_of_text, origin_labels}
 use Rattle.dnw_zone_data.specs.Words.{begins_with_quote}
 
@@ -12,6 +12,11 @@ qualified_labels (Err error) = None
 -- the labels of the fully qualified name that a word gives with an origin, if any; a word in quotes is no name
 abbrev pub named_at : Option NameValue → List ℕ → Option (List (List ℕ))
 named_at origin text = if begins_with_quote text then None else qualified_labels (name_of_text (origin_labels origin) text)
+
+-- The octets are the wire form of the name that a word gives, whatever the origin is.
+abbrev pub IsPlainName : List ℕ → List ℕ → Type 0
+IsPlainName text octets =
+    (labels : List (List ℕ)) × AreLabels labels × (octets ≡ wire labels) × ((origin : Option NameValue) → named_at origin text ≡ Some labels)
 
 -- The wire form of the name is appended; or there is none, and nothing is.
 abbrev pub AppendsName : Option (List (List ℕ)) → List ℕ → List ℕ → Bool → Type 0

@@ -5,7 +5,6 @@ use Rattle.std.specs.Net.Addr.{ipv4_octets, ipv6_segments}
 use Rattle.std.specs.Net.Grammar.{IsIpv4Text, IsIpv6Text}
 use Rattle.std.specs.declared.net.Ipv4Addr.{Ipv4Addr}
 use Rattle.std.specs.declared.net.Ipv6Addr.{Ipv6Addr}
-use Rattle.std.specs.Str.{IsUtf8}
 use Rattle.dnw_base.specs.Names.{NameValue, label_wire}
 use Rattle.dnw_data.specs.declared.kind.Kind.{Kind}
 use Rattle.dnw_data.specs.declared.kind.Kind.TheVariants as kinds
@@ -45,7 +44,7 @@ use Rattle.dnw_zone_data.specs.StringLists.{AreTexts, IsTextsWanted}
 
 -- a number of this size in a form, as the field that it makes
 abbrev pub IsNumber : NumberForm → ℕ → (ℕ → FieldValue) → List ℕ → FieldValue → Type 0
-IsNumber way max field text value = (n : ℕ) × IsUtf8 text × IsNumberIn way max text n × (value ≡ field n)
+IsNumber way max field text value = (n : ℕ) × IsNumberIn way max text n × (value ≡ field n)
 
 -- octets in a spelling
 abbrev pub AreOctetsOf : (List ℕ → List ℕ → Type 0) → (List ℕ → FieldValue) → List ℕ → FieldValue → Type 0
@@ -60,12 +59,12 @@ abbrev pub IsNumberOf : NumberForm → Kind → List ℕ → FieldValue → Type
 IsNumberOf way kinds.U8 text value = IsNumber way max_u8 u8 text value
 IsNumberOf way kinds.U16 text value = IsNumber way max_u16 u16 text value
 IsNumberOf way kinds.U32 text value = IsNumber way max_u32 u32 text value
-IsNumberOf way kinds.Time text value = (n : ℕ) × IsUtf8 text × IsTimeText text n × (value ≡ time n)
+IsNumberOf way kinds.Time text value = (n : ℕ) × IsTimeText text n × (value ≡ time n)
 IsNumberOf way kind text value = ⊥
 
 -- pairs of digits are so many octets, as the field that they make
 abbrev pub IsIdentifierField : ℕ → (List ℕ → FieldValue) → List ℕ → FieldValue → Type 0
-IsIdentifierField size field text value = (own : List ℕ) × IsUtf8 text × IsPairsText text own × (length own ≡ size) × (value ≡ field own)
+IsIdentifierField size field text value = (own : List ℕ) × IsPairsText text own × (length own ≡ size) × (value ≡ field own)
 
 -- the numbers of identifiers, by their octets
 abbrev pub eui48 : List ℕ → FieldValue
@@ -77,9 +76,9 @@ eui64 own = u64 (from_be_bytes w64 own)
 -- a word writes octets that have a length octet before them; a string may have any octets as they are
 abbrev pub SpellsShown : Shown → List ℕ → List ℕ → Type 0
 SpellsShown Text text own = IsStringText text own
-SpellsShown Tag text own = IsUtf8 text × IsTagText text own
-SpellsShown Hex text own = IsUtf8 text × IsSaltText text own
-SpellsShown Base32Hex text own = IsUtf8 text × IsHashText text own
+SpellsShown Tag text own = IsTagText text own
+SpellsShown Hex text own = IsSaltText text own
+SpellsShown Base32Hex text own = IsHashText text own
 SpellsShown shown text own = ⊥
 
 -- a word is octets up to the end: written as a string is, or an address of NSAP
@@ -91,8 +90,8 @@ IsOctetsOf shown text value = ⊥
 -- a word is a field of this kind, and its number is in a form
 abbrev pub IsWord : Option NameValue → NumberForm → Kind → List ℕ → FieldValue → Type 0
 IsWord origin way (kinds.Name form) text value = IsNameField origin text value
-IsWord origin way kinds.Ipv4 text value = (a : Ipv4Addr) × IsUtf8 text × IsIpv4Text text a × (value ≡ ipv4 (ipv4_octets a))
-IsWord origin way kinds.Ipv6 text value = (a : Ipv6Addr) × IsUtf8 text × IsIpv6Text text a × (value ≡ ipv6 (ipv6_segments a))
+IsWord origin way kinds.Ipv4 text value = (a : Ipv4Addr) × IsIpv4Text text a × (value ≡ ipv4 (ipv4_octets a))
+IsWord origin way kinds.Ipv6 text value = (a : Ipv6Addr) × IsIpv6Text text a × (value ≡ ipv6 (ipv6_segments a))
 IsWord origin way kinds.TypeCode text value = IsTypeField text value
 IsWord origin way kinds.U48 text value = IsIdentifierField 6 eui48 text value
 IsWord origin way kinds.U64 text value = IsIdentifierField 8 eui64 text value
@@ -104,8 +103,8 @@ IsWord origin way kind text value = IsNumberOf way kind text value
 
 -- a text writes octets up to the end
 abbrev pub SpellsOctets : Shown → List ℕ → List ℕ → Type 0
-SpellsOctets Hex text own = IsUtf8 text × IsHexText text own
-SpellsOctets Base64 text own = IsUtf8 text × IsBase64Text text own
+SpellsOctets Hex text own = IsHexText text own
+SpellsOctets Base64 text own = IsBase64Text text own
 SpellsOctets shown text own = ⊥
 
 -- all words write octets as one, or are the numbers of a bitmap

@@ -21,6 +21,10 @@ after_spaces (c ∷ cs) = if is_space c then after_spaces cs else c ∷ cs
 abbrev pub is_word_end : ℕ → Bool
 is_word_end c = is_space c || c == quote || c == 40 || c == 41 || c == 59
 
+-- Outside of quotes, escapes and comments, other characters are parts of words or white space.
+abbrev pub is_plain_octet : ℕ → Bool
+is_plain_octet c = not (c == 10 || c == 13 || c == quote || c == 40 || c == 41 || c == 59 || c == backslash)
+
 -- the next character is after a backslash
 abbrev pub escaped_after : Bool → ℕ → Bool
 escaped_after escaped c = not escaped && (c == backslash)

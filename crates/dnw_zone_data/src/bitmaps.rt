@@ -11,7 +11,6 @@ use dnw_data::kind::Shown;
 use dnw_zone_values::mnemonic::{begins_with_digit, service_named};
 use dnw_zone_values::number::number_up_to;
 use std::alloc::{AllocError, Global};
-use std::str;
 
 /// The greatest record type of a bitmap without windows.
 const MAX_OLD_TYPE: u16 = 127;
@@ -84,11 +83,10 @@ fn number_of_word(shown: Shown, word: &[u8]) -> Option<u16>
 fn port_of_word(word: &[u8]) -> Option<u16>
     ensures { MatchOption result ((n : ℕ) → ¬ (IsPortWord word.now n)) (IsPortWord word.now) }
 {
-    let text = str::from_utf8(word).ok()?;
-    if begins_with_digit(text) {
+    if begins_with_digit(word) {
         return Some(number_up_to(word, 65535)? as u16);
     }
-    service_named(text)
+    service_named(word)
 }
 
 /// Returns the code of the type that a word is, if it is one of a bitmap without windows.

@@ -4,7 +4,6 @@ ghost use Rattle.std.specs.Net.Addr.{octets_of, ipv4_octets, ipv6_segments, segm
 ghost use Rattle.std.specs.Net.Grammar.{IsIpv4Text, IsIpv6Text};
 ghost use Rattle.std.specs.Net.Text.{ipv4_text, ipv6_text};
 ghost use Rattle.std.specs.Option.{option_copied};
-ghost use Rattle.std.specs.Str.{IsUtf8};
 ghost use Rattle.std.specs.declared.net.Ipv4Addr.{Ipv4Addr};
 ghost use Rattle.std.specs.declared.net.Ipv6Addr.{Ipv6Addr};
 ghost use Rattle.dnw_base.specs.Names.{AreLabels, wire};
@@ -22,12 +21,10 @@ use crate::spelling::push_octets;
 use dnw_base::limits::MAX_DATA;
 use dnw_data::kind::{Shape, Shown};
 use dnw_name::name::Name;
-use dnw_zone_values::address::{parse_ipv4, parse_ipv6};
 use dnw_zone_values::number::number_up_to;
 use dnw_zone_values::octets::{Base64, Hexadecimal};
 use std::alloc::{AllocError, Global};
 use std::net::{Ipv4Addr, Ipv6Addr};
-use std::str;
 
 /// The flag of a relay, in the octet of its type (RFC 8777, section 4.2.3).
 const RELAY_FLAG: u8 = 128;
@@ -155,12 +152,9 @@ fn push_end(
 
 /// Appends the octets of an IPv4 address. Returns `false` if the word is none.
 fn push_ipv4(word: &[u8], out: &mut Vec<u8>) -> Result<bool, AllocError>
-    ensures { IfOk result (PushesOne (λ own. (a : Ipv4Addr) × IsUtf8 word.now × IsIpv4Text word.now a × (own ≡ ipv4_octets a)) out.old.items out.new.items) }
+    ensures { IfOk result (PushesOne (λ own. (a : Ipv4Addr) × IsIpv4Text word.now a × (own ≡ ipv4_octets a)) out.old.items out.new.items) }
 {
-    let Ok(text) = str::from_utf8(word) else {
-        return Ok(false);
-    };
-    let Ok(address) = parse_ipv4(text) else {
+    let Ok(address) = Ipv4Addr::parse_ascii(word) else {
         return Ok(false);
     };
     out.extend_from_slice(&address.octets())?;
@@ -169,12 +163,9 @@ fn push_ipv4(word: &[u8], out: &mut Vec<u8>) -> Result<bool, AllocError>
 
 /// Appends the octets of an IPv6 address. Returns `false` if the word is none.
 fn push_ipv6(word: &[u8], out: &mut Vec<u8>) -> Result<bool, AllocError>
-    ensures { IfOk result (PushesOne (λ own. (a : Ipv6Addr) × IsUtf8 word.now × IsIpv6Text word.now a × (own ≡ octets_of (ipv6_segments a))) out.old.items out.new.items) }
+    ensures { IfOk result (PushesOne (λ own. (a : Ipv6Addr) × IsIpv6Text word.now a × (own ≡ octets_of (ipv6_segments a))) out.old.items out.new.items) }
 {
-    let Ok(text) = str::from_utf8(word) else {
-        return Ok(false);
-    };
-    let Ok(address) = parse_ipv6(text) else {
+    let Ok(address) = Ipv6Addr::parse_ascii(word) else {
         return Ok(false);
     };
     out.extend_from_slice(&address.octets())?;

@@ -1,6 +1,5 @@
 //! The form that any data have (RFC 3597, section 5).
 ghost use Rattle.std.specs.Prelude.{◌≡◌, ◌≤◌, ℕ, List, [], length, Some, IfOk, OnErr, IfErr, MatchResult, MatchOption};
-ghost use Rattle.std.specs.Str.{IsUtf8};
 ghost use Rattle.dnw_zone_data.specs.Faults.{fault};
 ghost use Rattle.dnw_zone_data.specs.Words.{without_spaces};
 ghost use Rattle.dnw_zone_data.specs.Generic.{generic_text, hex_words, IsSize, AreHexWords, IsSized, FailsSized};
@@ -8,10 +7,10 @@ ghost use Rattle.dnw_zone_data.specs.Generic.{generic_text, hex_words, IsSize, A
 use crate::error::{DataTextError, Wanted};
 use crate::words::{after_spaces, split_word, without_spaces};
 use dnw_zone_values::error::FieldTextError;
-use dnw_zone_values::number::parse_u16;
-use dnw_zone_values::octets::{Hexadecimal, parse_hexadecimal};
+use dnw_zone_values::number::number_up_to;
+use dnw_zone_values::octets::{Hexadecimal, read_hexadecimal};
 use std::alloc::{AllocError, Global};
-use std::{fmt, str};
+use std::fmt;
 
 /// The word that the form begins with.
 pub(crate) const MARK: &[u8] = b"\\#";
@@ -70,8 +69,7 @@ pub(crate) fn hex_words(left: &[u8]) -> &[u8]
 fn size_of(word: &[u8]) -> Option<u16>
     ensures { MatchOption result ((n : ℕ) → ¬ (IsSize word.now n)) (IsSize word.now) }
 {
-    let text = str::from_utf8(word).ok()?;
-    parse_u16(text).ok()
+    Some(number_up_to(word, 65535)? as u16)
 }
 
 /// Returns what no words write: no octets, if there are to be none.
@@ -94,11 +92,8 @@ fn octets_of(alloc: Global, size: u16, words: &[u8]) -> Result<Option<Vec<u8>>, 
         return Ok(no_octets(alloc, size));
     }
     let joined = without_spaces(alloc, words)?;
-    let Ok(text) = str::from_utf8(joined.as_slice()) else {
-        return Ok(None);
-    };
     let mut octets = Vec::new(alloc);
-    match parse_hexadecimal(text, &mut octets) {
+    match read_hexadecimal(joined.as_slice(), &mut octets) {
         Ok(()) if octets.len() == usize::from(size) => Ok(Some(octets)),
         Err(FieldTextError::Memory) => Err(AllocError),
         _ => Ok(None),

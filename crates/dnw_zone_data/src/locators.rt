@@ -4,15 +4,15 @@ ghost use Rattle.dnw_zone_data.specs.Appending.{AppendsOne};
 ghost use Rattle.dnw_zone_data.specs.Locators.{IsLocatorField, IsNodeNumber, IsNsapField};
 
 use dnw_zone_values::error::FieldTextError;
-use dnw_zone_values::number::parse_up_to;
+use dnw_zone_values::number::number_up_to;
 use dnw_zone_values::{locator, nsap};
 use std::alloc::{AllocError, Global};
 
 /// Appends the octets of an identifier of a node, or of a locator. Returns `false` if the text is none.
-pub(crate) fn parse_locator(text: &str, out: &mut Vec<u8>) -> Result<bool, AllocError>
+pub(crate) fn parse_locator(text: &[u8], out: &mut Vec<u8>) -> Result<bool, AllocError>
     ensures { IfOk result (AppendsOne (IsLocatorField text.now) out.old.items out.new.items) }
 {
-    let Ok(number) = locator::parse_locator(text.as_bytes()) else {
+    let Ok(number) = locator::parse_locator(text) else {
         return Ok(false);
     };
     out.extend_from_slice(&number.to_be_bytes())?;
@@ -20,10 +20,10 @@ pub(crate) fn parse_locator(text: &str, out: &mut Vec<u8>) -> Result<bool, Alloc
 }
 
 /// Appends the octets of the number of a node. Returns `false` if the text is none.
-pub(crate) fn parse_node_number(text: &str, out: &mut Vec<u8>) -> Result<bool, AllocError>
+pub(crate) fn parse_node_number(text: &[u8], out: &mut Vec<u8>) -> Result<bool, AllocError>
     ensures { IfOk result (AppendsOne (IsNodeNumber text.now) out.old.items out.new.items) }
 {
-    let Ok(number) = parse_up_to(text, 18446744073709551615) else {
+    let Some(number) = number_up_to(text, 18446744073709551615) else {
         return Ok(false);
     };
     out.extend_from_slice(&number.to_be_bytes())?;

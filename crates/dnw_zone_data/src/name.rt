@@ -1,8 +1,9 @@
 //! Names (RFC 1035, section 5.1).
-ghost use Rattle.std.specs.Prelude.{◌≡◌, ◌++◌, [], Some, None, IfOk, MatchBool, string_bytes};
+ghost use Rattle.std.specs.Prelude.{◌≡◌, ◌≤◌, ◌++◌, [], Some, None, take, IfOk, IfSome, MatchBool, string_bytes};
+ghost use Rattle.dnw_base.specs.Limits.{max_name};
 ghost use Rattle.std.specs.Option.{option_copied};
 ghost use Rattle.dnw_name_text.specs.NameTexts.{full_name_text};
-ghost use Rattle.dnw_zone_data.specs.NameReading.{AppendsName, named_at};
+ghost use Rattle.dnw_zone_data.specs.NameReading.{AppendsName, IsPlainName, named_at};
 
 use crate::words::begins_with_quote;
 use arrayvec::ArrayString;
@@ -11,7 +12,7 @@ use dnw_name::name::Name;
 use dnw_name::name_ref::NameRef;
 use dnw_name_form::form::WireForm;
 use dnw_name_text::printing::{MAX_TEXT, push_name};
-use dnw_name_text::reading::read_into;
+use dnw_name_text::reading::{put_plain_form, read_into};
 use std::alloc::{AllocError, Global};
 
 /// Appends the text of a name, fully qualified.
@@ -46,18 +47,68 @@ pub fn append_name(
 ) -> Result<bool, AllocError>
     ensures { IfOk result (AppendsName (named_at (option_copied origin.entry) text.now) out.old.items out.new.items) }
 {
+    let mut room = [0; MAX_NAME];
+    if let Some(len) = put_plain(&mut room, text) {
+        out.extend_from_slice(&room[..len])?;
+        return Ok(true);
+    }
+    append_other(alloc, text, origin, out)
+}
+
+/// Appends the wire form of any name that a word gives, as `append_name`.
+fn append_other(
+    alloc: Global,
+    text: &[u8],
+    origin: Option<&Name>,
+    out: &mut Vec<u8>,
+) -> Result<bool, AllocError>
+    ensures { IfOk result (AppendsName (named_at (option_copied origin.entry) text.now) out.old.items out.new.items) }
+{
     let mut form = WireForm::new(alloc);
-    if !fill_name(&mut form, text, origin) {
+    if !fill_other(&mut form, text, origin) {
         return Ok(false);
     }
     out.extend_from_slice(form.as_bytes())?;
     Ok(true)
 }
 
+/// Puts the wire form of the fully qualified name that a word gives at the front of a room, and returns its length, if a dot is at the
+/// word's end and the octets of its labels stand for themselves, as most do. Else it returns `None`, and the room has any octets.
+#[inline(always)]
+pub fn put_plain(room: &mut [u8; MAX_NAME], text: &[u8]) -> Option<usize>
+    ensures { IfSome result (λ len. (len ≤ max_name) × IsPlainName text.now (take len room.new)) }
+{
+    if begins_with_quote(text) {
+        return None;
+    }
+    match text.last() {
+        Some(b'.') => {
+            let Some(len) = put_plain_form(room, text) else {
+                return None;
+            };
+            Some(len)
+        }
+        _ => None,
+    }
+}
+
 /// Reads the name that a word gives into a form without labels, as `read_name` returns it. Returns `false` if it gives none; some labels
 /// may be there then.
-#[tactic(auto, using(crate::proofs::NamesRead::is_named, crate::proofs::NamesRead::is_relative, crate::proofs::NamesRead::is_none))]
 pub fn fill_name(form: &mut WireForm, text: &[u8], origin: Option<&Name>) -> bool
+    requires { form.old ≡ [] }
+    ensures { MatchBool result (named_at (option_copied origin.entry) text.now ≡ Some form.new) (named_at (option_copied origin.entry) text.now ≡ None) }
+{
+    let mut room = [0; MAX_NAME];
+    if let Some(len) = put_plain(&mut room, text) {
+        form.copy_octets(&room[..len]);
+        return true;
+    }
+    fill_other(form, text, origin)
+}
+
+/// Reads any name that a word gives, as `fill_name`. It does not look first whether its octets stand for themselves.
+#[tactic(auto, using(crate::proofs::NamesRead::is_named, crate::proofs::NamesRead::is_relative, crate::proofs::NamesRead::is_none))]
+pub fn fill_other(form: &mut WireForm, text: &[u8], origin: Option<&Name>) -> bool
     requires { form.old ≡ [] }
     ensures { MatchBool result (named_at (option_copied origin.entry) text.now ≡ Some form.new) (named_at (option_copied origin.entry) text.now ≡ None) }
 {

@@ -92,7 +92,7 @@ pub(crate) fn next_form(forms: &[NumberForm]) -> (NumberForm, &[NumberForm])
 }
 
 /// Returns the number of one octet that a text is in a form.
-pub(crate) fn u8_in(form: NumberForm, text: &str) -> Option<u8>
+pub(crate) fn u8_in(form: NumberForm, text: &[u8]) -> Option<u8>
     ensures { MatchOption result ((n : ℕ) → ¬ (IsNumberIn form max_u8 text.now n)) (IsNumberIn form max_u8 text.now) }
 {
     let number = number_in(form, text, 255)?;
@@ -100,7 +100,7 @@ pub(crate) fn u8_in(form: NumberForm, text: &str) -> Option<u8>
 }
 
 /// Returns the number of two octets that a text is in a form.
-pub(crate) fn u16_in(form: NumberForm, text: &str) -> Option<u16>
+pub(crate) fn u16_in(form: NumberForm, text: &[u8]) -> Option<u16>
     ensures { MatchOption result ((n : ℕ) → ¬ (IsNumberIn form max_u16 text.now n)) (IsNumberIn form max_u16 text.now) }
 {
     let number = number_in(form, text, 65535)?;
@@ -108,14 +108,14 @@ pub(crate) fn u16_in(form: NumberForm, text: &str) -> Option<u16>
 }
 
 /// Returns the number of four octets that a text is in a form.
-pub(crate) fn u32_in(form: NumberForm, text: &str) -> Option<u32>
+pub(crate) fn u32_in(form: NumberForm, text: &[u8]) -> Option<u32>
     ensures { MatchOption result ((n : ℕ) → ¬ (IsNumberIn form max_u32 text.now n)) (IsNumberIn form max_u32 text.now) }
 {
     number_in(form, text, 4294967295)
 }
 
 /// Returns the number up to `max` that a text is in a form.
-fn number_in(form: NumberForm, text: &str, max: u32) -> Option<u32>
+fn number_in(form: NumberForm, text: &[u8], max: u32) -> Option<u32>
     ensures is { MatchOption result ((n : ℕ) → ¬ (IsNumberIn form max text.now n)) (IsNumberIn form max text.now) }
     ensures few { IfSome result (λ n. n ≤ max) }
 {
@@ -130,16 +130,16 @@ fn number_in(form: NumberForm, text: &str, max: u32) -> Option<u32>
 }
 
 /// Returns the number up to `max` that a text is in decimal.
-fn decimal_in(text: &str, max: u32) -> Option<u32>
+fn decimal_in(text: &[u8], max: u32) -> Option<u32>
     ensures is { MatchOption result ((n : ℕ) → ¬ (IsNumberText max text.now n)) (IsNumberText max text.now) }
     ensures few { IfSome result (λ n. n ≤ max) }
 {
-    let number = number_up_to(text.as_bytes(), max.into())?;
+    let number = number_up_to(text, max.into())?;
     Some(number as u32)
 }
 
 /// Returns the period of at most `max` seconds that a text is.
-fn period_in(text: &str, max: u32) -> Option<u32>
+fn period_in(text: &[u8], max: u32) -> Option<u32>
     ensures is { MatchOption result ((n : ℕ) → ¬ (IsNumberIn NumberForm.Period max text.now n)) (IsNumberIn NumberForm.Period max text.now) }
     ensures few { IfSome result (λ n. n ≤ max) }
 {
@@ -148,7 +148,7 @@ fn period_in(text: &str, max: u32) -> Option<u32>
 }
 
 /// Returns the number up to `max` of an algorithm.
-fn algorithm_in(text: &str, max: u32) -> Option<u32>
+fn algorithm_in(text: &[u8], max: u32) -> Option<u32>
     ensures is { MatchOption result ((n : ℕ) → ¬ (IsNumberIn NumberForm.Algorithm max text.now n)) (IsNumberIn NumberForm.Algorithm max text.now) }
     ensures few { IfSome result (λ n. n ≤ max) }
 {
@@ -160,7 +160,7 @@ fn algorithm_in(text: &str, max: u32) -> Option<u32>
 }
 
 /// Returns the number up to `max` of a type of certificates.
-fn certificate_type_in(text: &str, max: u32) -> Option<u32>
+fn certificate_type_in(text: &[u8], max: u32) -> Option<u32>
     ensures is { MatchOption result ((n : ℕ) → ¬ (IsNumberIn NumberForm.CertificateType max text.now n)) (IsNumberIn NumberForm.CertificateType max text.now) }
     ensures few { IfSome result (λ n. n ≤ max) }
 {
@@ -172,7 +172,7 @@ fn certificate_type_in(text: &str, max: u32) -> Option<u32>
 }
 
 /// Returns the number up to `max` of a scheme of DSYNC.
-fn scheme_in(text: &str, max: u32) -> Option<u32>
+fn scheme_in(text: &[u8], max: u32) -> Option<u32>
     ensures is { MatchOption result ((n : ℕ) → ¬ (IsNumberIn NumberForm.Scheme max text.now n)) (IsNumberIn NumberForm.Scheme max text.now) }
     ensures few { IfSome result (λ n. n ≤ max) }
 {
@@ -184,7 +184,7 @@ fn scheme_in(text: &str, max: u32) -> Option<u32>
 }
 
 /// Returns the number up to `max` of a protocol.
-fn protocol_in(text: &str, max: u32) -> Option<u32>
+fn protocol_in(text: &[u8], max: u32) -> Option<u32>
     ensures is { MatchOption result ((n : ℕ) → ¬ (IsNumberIn NumberForm.Protocol max text.now n)) (IsNumberIn NumberForm.Protocol max text.now) }
     ensures few { IfSome result (λ n. n ≤ max) }
 {
@@ -197,13 +197,13 @@ fn protocol_in(text: &str, max: u32) -> Option<u32>
 
 /// Returns the seconds of a period: a number of seconds, or groups of digits and a unit, as `1h30m`; the units are `s`, `m`, `h`, `d`
 /// and `w`, in either case. After groups with a unit none comes without.
-pub fn period_seconds(text: &str) -> Option<u32>
+pub fn period_seconds(text: &[u8]) -> Option<u32>
     ensures { MatchOption result ((n : ℕ) → ¬ (IsPeriod text.now n)) (IsPeriod text.now) }
 {
-    if !is_whole(text.as_bytes()) {
+    if !is_whole(text) {
         return None;
     }
-    ttl_seconds(text.as_bytes())
+    ttl_seconds(text)
 }
 
 /// Returns `true` if a text is digits alone, or does not end with one.

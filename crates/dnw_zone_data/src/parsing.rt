@@ -26,10 +26,9 @@ use crate::types::{parse_type, parse_types};
 use crate::words::{after_spaces, has_no_spaces, split_word, without_spaces};
 use dnw_data::kind::{Kind, ListKind, Shown};
 use dnw_name::name::Name;
-use dnw_zone_values::address::{parse_ipv4, parse_ipv6};
-use dnw_zone_values::time::parse_time;
+use dnw_zone_values::time::read_time;
 use std::alloc::{AllocError, Global};
-use std::str;
+use std::net::{Ipv4Addr, Ipv6Addr};
 
 /// Where a field is: in a text of this length, of so many fields.
 #[derive(Clone, Copy)]
@@ -271,28 +270,25 @@ fn parse_word(
     if let Kind::Octets(shown) = kind {
         return parse_octets(alloc, shown, word, out);
     }
-    let Ok(text) = str::from_utf8(word) else {
-        return Ok(false);
-    };
     match kind {
         Kind::Ipv4 => {
-            let Ok(address) = parse_ipv4(text) else {
+            let Ok(address) = Ipv4Addr::parse_ascii(word) else {
                 return Ok(false);
             };
             out.extend_from_slice(&address.octets())?;
         }
         Kind::Ipv6 => {
-            let Ok(address) = parse_ipv6(text) else {
+            let Ok(address) = Ipv6Addr::parse_ascii(word) else {
                 return Ok(false);
             };
             out.extend_from_slice(&address.octets())?;
         }
         Kind::TypeCode => return parse_type(word, out),
-        Kind::Locator => return parse_locator(text, out),
-        Kind::NodeNumber => return parse_node_number(text, out),
-        Kind::U48 => return parse_eui48(alloc, text, out),
-        Kind::U64 => return parse_eui64(alloc, text, out),
-        _ => return parse_number(form, kind, text, out),
+        Kind::Locator => return parse_locator(word, out),
+        Kind::NodeNumber => return parse_node_number(word, out),
+        Kind::U48 => return parse_eui48(alloc, word, out),
+        Kind::U64 => return parse_eui64(alloc, word, out),
+        _ => return parse_number(form, kind, word, out),
     }
     Ok(true)
 }
@@ -313,7 +309,7 @@ fn parse_name(
 fn parse_number(
     form: NumberForm,
     kind: Kind,
-    text: &str,
+    text: &[u8],
     out: &mut Vec<u8>,
 ) -> Result<bool, AllocError>
     ensures { IfOk result (AppendsOne (IsNumberOf form kind text.now) out.old.items out.new.items) }
@@ -338,7 +334,7 @@ fn parse_number(
             out.extend_from_slice(&number.to_be_bytes())?;
         }
         Kind::Time => {
-            let Ok(seconds) = parse_time(text) else {
+            let Some(seconds) = read_time(text) else {
                 return Ok(false);
             };
             out.extend_from_slice(&seconds.to_be_bytes())?;
@@ -349,7 +345,7 @@ fn parse_number(
 }
 
 /// Appends the octets of an identifier of six. Returns `false` if the text is none.
-fn parse_eui48(alloc: Global, text: &str, out: &mut Vec<u8>) -> Result<bool, AllocError>
+fn parse_eui48(alloc: Global, text: &[u8], out: &mut Vec<u8>) -> Result<bool, AllocError>
     ensures { IfOk result (AppendsOne (IsIdentifierField 6 eui48 text.now) out.old.items out.new.items) }
 {
     let Some(own) = pairs_of(alloc, 6, text)? else {
@@ -360,7 +356,7 @@ fn parse_eui48(alloc: Global, text: &str, out: &mut Vec<u8>) -> Result<bool, All
 }
 
 /// Appends the octets of an identifier of eight. Returns `false` if the text is none.
-fn parse_eui64(alloc: Global, text: &str, out: &mut Vec<u8>) -> Result<bool, AllocError>
+fn parse_eui64(alloc: Global, text: &[u8], out: &mut Vec<u8>) -> Result<bool, AllocError>
     ensures { IfOk result (AppendsOne (IsIdentifierField 8 eui64 text.now) out.old.items out.new.items) }
 {
     let Some(own) = pairs_of(alloc, 8, text)? else {

@@ -8,14 +8,13 @@ ghost use Rattle.dnw_zone_values.specs.Pairs.{IsPairsText};
 ghost use Rattle.dnw_zone_data.specs.Parsing.{SpellsOctets, SpellsShown};
 
 use dnw_data::kind::Shown;
-use dnw_zone_values::base32::parse_hash;
+use dnw_zone_values::base32::read_hash;
 use dnw_zone_values::error::FieldTextError;
-use dnw_zone_values::octets::{parse_base64, parse_hexadecimal, parse_salt};
-use dnw_zone_values::pairs::parse_pairs;
+use dnw_zone_values::octets::{read_base64, read_hexadecimal, read_salt};
+use dnw_zone_values::pairs::read_pairs;
 use dnw_zone_values::string::{parse_string, parse_text};
-use dnw_zone_values::tag::parse_tag;
+use dnw_zone_values::tag::read_tag;
 use std::alloc::{AllocError, Global};
-use std::str;
 
 /// Appends the octets that a word writes. Returns `false` if it writes none; some may be appended then.
 pub(crate) fn push_spelled(shown: Shown, word: &[u8], out: &mut Vec<u8>) -> Result<bool, AllocError>
@@ -48,10 +47,7 @@ fn push_tag(word: &[u8], out: &mut Vec<u8>) -> Result<bool, AllocError>
     ensures is { IfOk result (PushesOne (SpellsShown Tag word.now) out.old.items out.new.items) }
     ensures few { IfOk result (λ is. is ≡ true → length out.new.items ≤ length out.old.items + 255) }
 {
-    let Ok(text) = str::from_utf8(word) else {
-        return Ok(false);
-    };
-    match parse_tag(text, out) {
+    match read_tag(word, out) {
         Ok(()) => Ok(true),
         Err(FieldTextError::Memory) => Err(AllocError),
         Err(_) => Ok(false),
@@ -63,10 +59,7 @@ fn push_salt(word: &[u8], out: &mut Vec<u8>) -> Result<bool, AllocError>
     ensures is { IfOk result (PushesOne (SpellsShown Hex word.now) out.old.items out.new.items) }
     ensures few { IfOk result (λ is. is ≡ true → length out.new.items ≤ length out.old.items + 255) }
 {
-    let Ok(text) = str::from_utf8(word) else {
-        return Ok(false);
-    };
-    match parse_salt(text, out) {
+    match read_salt(word, out) {
         Ok(()) => Ok(true),
         Err(FieldTextError::Memory) => Err(AllocError),
         Err(_) => Ok(false),
@@ -78,10 +71,7 @@ fn push_hash(word: &[u8], out: &mut Vec<u8>) -> Result<bool, AllocError>
     ensures is { IfOk result (PushesOne (SpellsShown Base32Hex word.now) out.old.items out.new.items) }
     ensures few { IfOk result (λ is. is ≡ true → length out.new.items ≤ length out.old.items + 255) }
 {
-    let Ok(text) = str::from_utf8(word) else {
-        return Ok(false);
-    };
-    match parse_hash(text, out) {
+    match read_hash(word, out) {
         Ok(()) => Ok(true),
         Err(FieldTextError::Memory) => Err(AllocError),
         Err(_) => Ok(false),
@@ -103,9 +93,6 @@ pub(crate) fn push_text(word: &[u8], out: &mut Vec<u8>) -> Result<bool, AllocErr
 pub(crate) fn push_octets(shown: Shown, text: &[u8], out: &mut Vec<u8>) -> Result<bool, AllocError>
     ensures { IfOk result (PushesOne (SpellsOctets shown text.now) out.old.items out.new.items) }
 {
-    let Ok(text) = str::from_utf8(text) else {
-        return Ok(false);
-    };
     match shown {
         Shown::Hex => push_hexadecimal(text, out),
         Shown::Base64 => push_base64(text, out),
@@ -114,10 +101,10 @@ pub(crate) fn push_octets(shown: Shown, text: &[u8], out: &mut Vec<u8>) -> Resul
 }
 
 /// Appends the octets that a text writes in hexadecimal, if it does.
-fn push_hexadecimal(text: &str, out: &mut Vec<u8>) -> Result<bool, AllocError>
+fn push_hexadecimal(text: &[u8], out: &mut Vec<u8>) -> Result<bool, AllocError>
     ensures { IfOk result (PushesOne (IsHexText text.now) out.old.items out.new.items) }
 {
-    match parse_hexadecimal(text, out) {
+    match read_hexadecimal(text, out) {
         Ok(()) => Ok(true),
         Err(FieldTextError::Memory) => Err(AllocError),
         Err(_) => Ok(false),
@@ -125,10 +112,10 @@ fn push_hexadecimal(text: &str, out: &mut Vec<u8>) -> Result<bool, AllocError>
 }
 
 /// Appends the octets that a text writes in base 64, if it does.
-fn push_base64(text: &str, out: &mut Vec<u8>) -> Result<bool, AllocError>
+fn push_base64(text: &[u8], out: &mut Vec<u8>) -> Result<bool, AllocError>
     ensures { IfOk result (PushesOne (IsBase64Text text.now) out.old.items out.new.items) }
 {
-    match parse_base64(text, out) {
+    match read_base64(text, out) {
         Ok(()) => Ok(true),
         Err(FieldTextError::Memory) => Err(AllocError),
         Err(_) => Ok(false),
@@ -139,12 +126,12 @@ fn push_base64(text: &str, out: &mut Vec<u8>) -> Result<bool, AllocError>
 pub(crate) fn pairs_of(
     alloc: Global,
     size: usize,
-    text: &str,
+    text: &[u8],
 ) -> Result<Option<Vec<u8>>, AllocError>
     ensures { IfOk result (λ x. MatchOption x ((own : List ℕ) → IsPairsText text.now own → ¬ (length own ≡ size)) (λ own. IsPairsText text.now own.items × (length own.items ≡ size))) }
 {
     let mut own = Vec::new(alloc);
-    match parse_pairs(text, &mut own) {
+    match read_pairs(text, &mut own) {
         Ok(()) if own.len() == size => Ok(Some(own)),
         Err(FieldTextError::Memory) => Err(AllocError),
         _ => Ok(None),

@@ -1,5 +1,5 @@
 //! Lists of record types: the types of a bitmap (RFC 4034, section 4.2).
-ghost use Rattle.std.specs.Prelude.{◌≡◌, ◌≤◌, ◌<◌, ◌+◌, ◌*◌, ◌++◌, ℕ, List, length, IfOk, MatchOption, string_bytes};
+ghost use Rattle.std.specs.Prelude.{◌≡◌, ◌≤◌, ◌<◌, ◌+◌, ◌*◌, ◌++◌, ℕ, List, length, IfOk, IfSome, MatchOption, string_bytes};
 ghost use Rattle.dnw_base.specs.declared.record_type.RecordType.{RecordType};
 ghost use Rattle.dnw_data.specs.TypeSets.{bit_codes, octet_codes, octets_codes};
 ghost use Rattle.dnw_zone_data.specs.Bitmaps.{number_text, numbers_text};
@@ -172,12 +172,49 @@ pub(crate) fn parse_type(word: &[u8], out: &mut Vec<u8>) -> Result<bool, AllocEr
 }
 
 /// Returns the type that a word is. `*` is none: it asks for all types.
-pub(crate) fn type_of_word(word: &[u8]) -> Option<RecordType>
+pub fn type_of_word(word: &[u8]) -> Option<RecordType>
     ensures { MatchOption result ((record_type : RecordType) → ¬ (IsTypeWord word.now record_type)) (IsTypeWord word.now) }
 {
+    if let Some(record_type) = usual_type(word) {
+        return Some(record_type);
+    }
     if is_asterisk(word) {
         return None;
     }
     let text = str::from_utf8(word).ok()?;
     RecordType::from_text(text)
+}
+
+/// Returns the record type that a word is, for those that most records of zone files have.
+fn usual_type(word: &[u8]) -> Option<RecordType>
+    ensures { IfSome result (IsTypeWord word.now) }
+{
+    if word == b"A".as_slice() {
+        return Some(RecordType::A);
+    }
+    if word == b"NS".as_slice() {
+        return Some(RecordType::NS);
+    }
+    if word == b"AAAA".as_slice() {
+        return Some(RecordType::AAAA);
+    }
+    if word == b"RRSIG".as_slice() {
+        return Some(RecordType::RRSIG);
+    }
+    if word == b"NSEC3".as_slice() {
+        return Some(RecordType::NSEC3);
+    }
+    if word == b"DS".as_slice() {
+        return Some(RecordType::DS);
+    }
+    if word == b"MX".as_slice() {
+        return Some(RecordType::MX);
+    }
+    if word == b"TXT".as_slice() {
+        return Some(RecordType::TXT);
+    }
+    if word == b"CNAME".as_slice() {
+        return Some(RecordType::CNAME);
+    }
+    None
 }

@@ -2,16 +2,17 @@
 ghost use Rattle.std.specs.Prelude.{◌≡◌, ◌≤◌, ◌+◌, ◌-◌, length, false, IfOk};
 ghost use Rattle.std.specs.List.{filter, list_all};
 ghost use Rattle.dnw_zone_data.specs.Inside.WordParts.{is_mark, is_word_part};
-ghost use Rattle.dnw_zone_data.specs.Words.{after_param, after_spaces, after_word, begins_with_quote, is_asterisk, is_word_end, is_no_space, is_space, param_len, param_word, plain_len, quoted_len, word, word_len};
+ghost use Rattle.dnw_zone_data.specs.Words.{after_param, after_spaces, after_word, begins_with_quote, is_asterisk, is_word_end, is_no_space, is_plain_octet, is_space, param_len, param_word, plain_len, quoted_len, word, word_len};
 
 use std::alloc::{AllocError, Global};
 
-// 1 for each character that is a part of a word outside of quotes and nothing more, and 0 for each other one.
+// What each character is outside of quotes, escapes and comments: 1 for a part of a word, 2 for a space or a tab, and 0 for one that is
+// more.
 #[rattlefmt::skip]
-static WORD_PARTS: [u8; 256] = [
-    1, 1, 1, 1, 1, 1, 1, 1, 1, 0, 0, 1, 1, 0, 1, 1,
+static CLASSES: [u8; 256] = [
+    1, 1, 1, 1, 1, 1, 1, 1, 1, 2, 0, 1, 1, 0, 1, 1,
     1, 1, 1, 1, 1, 1, 1, 1, 1, 1, 1, 1, 1, 1, 1, 1,
-    0, 1, 0, 1, 1, 1, 1, 1, 0, 0, 1, 1, 1, 1, 1, 1,
+    2, 1, 0, 1, 1, 1, 1, 1, 0, 0, 1, 1, 1, 1, 1, 1,
     1, 1, 1, 1, 1, 1, 1, 1, 1, 1, 1, 0, 1, 1, 1, 1,
     1, 1, 1, 1, 1, 1, 1, 1, 1, 1, 1, 1, 1, 1, 1, 1,
     1, 1, 1, 1, 1, 1, 1, 1, 1, 1, 1, 1, 0, 1, 1, 1,
@@ -152,7 +153,15 @@ fn after_fours(text: &[u8]) -> &[u8]
 fn is_word_part(c: u8) -> bool
     ensures { result ≡ is_word_part c }
 {
-    WORD_PARTS[c as usize] == 1
+    CLASSES[c as usize] == 1
+}
+
+/// Returns `true` if a character outside of quotes, escapes and comments is a part of a word or white space, and nothing more.
+#[inline(always)]
+pub fn is_plain_octet(c: u8) -> bool
+    ensures { result ≡ is_plain_octet c }
+{
+    CLASSES[c as usize] != 0
 }
 
 /// Returns the length of the service parameter that a text begins with.

@@ -11,7 +11,8 @@ use Rattle.dnw_zone_record.specs.declared.scan.Ending.TheVariants.{Line}
 use Rattle.dnw_zone_record.specs.declared.scan.Place.{Place}
 use Rattle.dnw_zone_record.specs.declared.scan.Place.TheVariants.{Words, Escaped, Quoted, QuotedEscaped}
 use Rattle.dnw_zone_record.specs.declared.scan.Octet.TheVariants.{Kept}
-use Rattle.dnw_zone_record.specs.Lines.{added_octet, is_plain_octet, is_quoted, ends_line, line_from, line_of, of_quoted, on_octet}
+use Rattle.dnw_zone_data.specs.Words.{is_plain_octet}
+use Rattle.dnw_zone_record.specs.Lines.{added_octet, is_quoted, ends_line, line_from, line_of, of_quoted, on_octet}
 
 -- A text stays as it is, and leads from one place to another, whatever is before it and after it.
 abbrev pub Keeps : Place → List ℕ → Place → Type 0

@@ -10,7 +10,7 @@ use Rattle.dnw_zone_file.specs.Heads.{IsClassNext, IsTtlAfter, IsTtlAndClass, Is
 use Rattle.dnw_zone_record.specs.RecordLines.{after_next_word, next_word}
 
 one_ttl : (left : List ℕ) (x y : Option ℕ) (r s : List ℕ) → IsTtlNext left x r → IsTtlNext left y s → (x ≡ y) × (r ≡ s)
-one_ttl left (Some m) (Some n) r s h k = (ap Some (same_Some m n (sym h.0.1.0 ∙ k.0.1.0)), h.1 ∙ sym k.1)
+one_ttl left (Some m) (Some n) r s h k = (ap Some (same_Some m n (sym h.0.0 ∙ k.0.0)), h.1 ∙ sym k.1)
 one_ttl left (Some m) None r s h k = absurd (k.0 m h.0)
 one_ttl left None (Some n) r s h k = absurd (h.0 n k.0)
 one_ttl left None None r s h k = (refl, h.1 ∙ sym k.1)

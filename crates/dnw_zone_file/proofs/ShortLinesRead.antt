@@ -41,7 +41,8 @@ use Rattle.dnw_zone_file.proofs.LinesRead.{by_owner, owner_only}
 use Rattle.dnw_zone_file.proofs.ShortNames.{IsOwnerWord, all_octets, full_word, short_word, word_owner}
 use Rattle.dnw_zone_file.proofs.WrittenLines.{IsPrinted, begins_owner, class_plain, kind_of, no_quote, plain_next, spaced_end, zone_head}
 use Rattle.dnw_zone_lexer.specs.Times.{time_seconds}
-use Rattle.dnw_zone_record.specs.RecordLines.{spaced, after_next_word, next_word, IsClassWord, IsTtlWord, IsTypeWord, LacksTtlWord}
+use Rattle.dnw_zone_data.specs.TypeLists.{IsTypeWord}
+use Rattle.dnw_zone_record.specs.RecordLines.{spaced, after_next_word, next_word, IsClassWord, IsTtlWord, LacksTtlWord}
 use Rattle.dnw_zone_record.proofs.LinesBack.{class_other, IsReadRecord}
 use Rattle.dnw_zone_values.specs.Octets.{IsOctets}
 use Rattle.dnw_zone_record.specs.declared.scan.Place.TheVariants.{Words}
@@ -59,7 +60,7 @@ no_time : (w : List ℕ) (n : ℕ) → begins_letter w ≡ true → ¬ (IsTtlWor
 no_time [] n h is = absurd cc
 no_time (c ∷ cs) n h is =
     let none : time_seconds (c ∷ cs) ≡ None = rw (letter c h) refl in
-    let no : None ≡ Some n = sym none ∙ is.1.0 in absurd cc
+    let no : None ≡ Some n = sym none ∙ is.0 in absurd cc
 
 class_letter : (class : DNSClass) → begins_letter (class_text class) ≡ true
 class_letter (OPT size) = refl
@@ -259,7 +260,7 @@ ttl_entry before ttl few =
     let whole : codes "$TTL" ++ left ≡ line = ap (λ (xs : List ℕ). codes "$TTL " ++ xs) same in
     let first : word line ≡ codes "$TTL" = ap word (sym whole) ∙ plain_word (codes "$TTL") left refl refl in
     let after : after_word line ≡ left = ap after_word (sym whole) ∙ plain_after (codes "$TTL") left refl refl in
-    let only : IsOnlyTtl left ttl = (subst (λ (w : List ℕ). IsTtlWord w ttl) (sym next.0) (plain_utf8 digits plain, period ttl few), ap after_spaces next.1) in
+    let only : IsOnlyTtl left ttl = (subst (λ (w : List ℕ). IsTtlWord w ttl) (sym next.0) (period ttl few), ap after_spaces next.1) in
     let moved = subst (λ (xs : List ℕ). IsOnlyTtl xs ttl) (sym after) only in
     let directive : IsDirective (word line) directives.Ttl = subst (λ (w : List ℕ). IsDirective w directives.Ttl) (sym first) refl in
     (Dollar, word line, after_word line, sym (dollar_kind (codes "TTL " ++ digits)), refl, refl, inr (inl (directive, refl, ttl, moved, refl)))

@@ -28,7 +28,8 @@ use Rattle.dnw_zone_file.specs.declared.entry.LineKind.TheVariants.{OwnerFirst}
 use Rattle.dnw_zone_file.specs.Entries.{begins_with, line_kind, owner_at}
 use Rattle.dnw_zone_file.specs.Heads.{IsZoneHead}
 use Rattle.dnw_zone_record.proofs.LinesBack.{class_other, IsReadRecord, line_rest, record_read, split}
-use Rattle.dnw_zone_record.specs.RecordLines.{record_line, spaced, next_word, after_next_word, IsTtlWord, IsClassWord, IsTypeWord}
+use Rattle.dnw_zone_data.specs.TypeLists.{IsTypeWord}
+use Rattle.dnw_zone_record.specs.RecordLines.{record_line, spaced, next_word, after_next_word, IsTtlWord, IsClassWord}
 use Rattle.dnw_zone_values.specs.Octets.{IsOctets}
 use Rattle.dnw_zone_record.specs.declared.scan.Place.TheVariants.{Words}
 use Rattle.dnw_zone_file.specs.Written.{written_head}
@@ -103,7 +104,7 @@ zone_head r text fits =
     let plain = type_plain r.record_type fits.type_few in
     let last = plain_next (type_text r.record_type) rest4 plain (type_some r.record_type) (spaced_end text) in
     let is_ttl : IsTtlWord (next_word (32 ∷ decimal r.ttl ++ rest2)) r.ttl =
-    subst (λ (w : List ℕ). IsTtlWord w r.ttl) (sym ttl.0) (plain_utf8 (decimal r.ttl) (decimal_plain r.ttl few), period r.ttl fits.ttl_few) in
+    subst (λ (w : List ℕ). IsTtlWord w r.ttl) (sym ttl.0) (period r.ttl fits.ttl_few) in
     let is_class : IsClassWord (next_word rest2) r.class =
     subst (λ (w : List ℕ). IsClassWord w r.class) (sym name.0)
     (plain_utf8 (class_text r.class) shape.0, classes_come_back r.class fits.class_few ∙ ap Some fits.same_class, class_other r.class) in

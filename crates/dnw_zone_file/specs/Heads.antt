@@ -3,7 +3,8 @@
 use Rattle.std.specs.Prelude.{◌≡◌, ℕ, ◌-◌, List, length, Option, Some, None}
 use Rattle.dnw_base.specs.declared.dns_class.DNSClass.{DNSClass}
 use Rattle.dnw_zone_data.specs.Words.{after_spaces}
-use Rattle.dnw_zone_record.specs.RecordLines.{after_next_word, IsClassWord, IsTtlWord, IsTypeWord, LacksClassWord, LacksTtlWord, LacksTypeWord, next_word}
+use Rattle.dnw_zone_data.specs.TypeLists.{IsTypeWord}
+use Rattle.dnw_zone_record.specs.RecordLines.{after_next_word, IsClassWord, IsTtlWord, LacksClassWord, LacksTtlWord, LacksTypeWord, next_word}
 use Rattle.dnw_zone_file.specs.declared.error.ZoneError.{ZoneError}
 use Rattle.dnw_zone_file.specs.declared.error.ZoneError.TheVariants.{Wrong}
 use Rattle.dnw_zone_file.specs.declared.error.ZoneRule.{ZoneRule}

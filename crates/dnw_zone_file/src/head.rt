@@ -5,8 +5,9 @@ ghost use Rattle.dnw_zone_file.specs.Heads.{LacksHead, IsClassNext, IsZoneHead, 
 use crate::error::{ZoneError, ZoneRule};
 use dnw_base::dns_class::DNSClass;
 use dnw_base::record_type::RecordType;
+use dnw_zone_data::types::type_of_word;
 use dnw_zone_data::words::after_spaces;
-use dnw_zone_record::record_line::{class_of, next_word, ttl_of, type_of};
+use dnw_zone_record::record_line::{class_of, next_word, ttl_of};
 
 /// What a record has between its owner and its data. The time to live and the class may be left out.
 #[derive(Clone, Copy)]
@@ -29,7 +30,7 @@ pub(crate) fn head_of(len: usize, text: &[u8]) -> Result<(Head, &[u8]), ZoneErro
 {
     let (ttl, class, left) = ttl_and_class(text);
     let (word, rest) = next_word(left);
-    let Some(record_type) = type_of(word) else {
+    let Some(record_type) = type_of_word(word) else {
         return Err(wrong_at(len, left, ZoneRule::NoType));
     };
     let head = Head {

@@ -29,7 +29,8 @@ use Rattle.dnw_base.specs.Limits.{max_data}
 use Rattle.dnw_zone_data.specs.DataTexts.{IsTextOf, text_kinds}
 use Rattle.dnw_zone_data.specs.NameReading.{named_at}
 use Rattle.dnw_zone_record.specs.declared.record_line.LineHead.{LineHead}
-use Rattle.dnw_zone_record.specs.RecordLines.{record_line, spaced, next_word, after_next_word, line_octets, IsRecordLine, IsTtlWord, IsClassWord, IsTypeWord, IsHead, IsDataOf, IsAfterOwner, HasClassNext}
+use Rattle.dnw_zone_data.specs.TypeLists.{IsTypeWord}
+use Rattle.dnw_zone_record.specs.RecordLines.{record_line, spaced, next_word, after_next_word, line_octets, IsRecordLine, IsTtlWord, IsClassWord, IsHead, IsDataOf, IsAfterOwner, HasClassNext}
 use Rattle.dnw_zone_record.specs.RecordTextLaws.{line_head, LinesComeBack}
 use Rattle.dnw_zone_data.proofs.DataBack.{back, same_start}
 use Rattle.dnw_zone_data.proofs.FieldValues.{labels_fit}
@@ -52,7 +53,7 @@ plain_next w rest plain some end =
 
 ttl_word : (n : ℕ) → n ≤ 4294967295 → IsTtlWord (decimal n) n
 ttl_word n few =
-    (plain_utf8 (decimal n) (decimal_plain n (omega (arith, few))), period n few)
+    period n few
 
 class_plain : (class : DNSClass) → class_code class < 65536 → (all_plain (class_text class) ≡ true) × (0 < length (class_text class))
 class_plain (OPT size) h =

@@ -28,11 +28,11 @@ one_class left c d r s (inr x) (inr y) = (x.1 ∙ sym y.1, x.2 ∙ sym y.2)
 
 one_ttl : (left : List ℕ) (m n : ℕ) (c d : DNSClass) (r s : List ℕ) → HasTtlAndClass left m c r → HasTtlAndClass left n d s → (m ≡ n) × (c ≡ d) × (r ≡ s)
 one_ttl left m n c d r s (inl (ttl, class)) (inl (also, other)) =
-    let next = one_class (after_next_word left) c d r s class other in (same_Some m n (sym ttl.1.0 ∙ also.1.0), next.0, next.1)
+    let next = one_class (after_next_word left) c d r s class other in (same_Some m n (sym ttl.0 ∙ also.0), next.0, next.1)
 one_ttl left m n c d r s (inl (ttl, class)) (inr (none, other)) = absurd (none m ttl)
 one_ttl left m n c d r s (inr (none, class)) (inl (ttl, other)) = absurd (none n ttl)
 one_ttl left m n c d r s (inr (none, (class, ttl, e))) (inr (lacks, (other, also, f))) =
-    (same_Some m n (sym ttl.1.0 ∙ also.1.0), same_Some c d (sym class.1 ∙ other.1), e ∙ sym f)
+    (same_Some m n (sym ttl.0 ∙ also.0), same_Some c d (sym class.1 ∙ other.1), e ∙ sym f)
 
 one_head : (left : List ℕ) (head other : LineHead) (r s : List ℕ) → IsHead left head r → IsHead left other s → (head ≡ other) × (r ≡ s)
 one_head left head other r s (between, has, kind, e) (among, also, other_kind, f) =

@@ -4,7 +4,8 @@ use Rattle.dnw_base.specs.declared.dns_class.DNSClass.{DNSClass}
 use Rattle.dnw_zone_record.specs.declared.record_line.LineHead.{LineHead}
 use Rattle.dnw_zone_record.specs.declared.record_line.RecordLineError.{RecordLineError}
 use Rattle.dnw_zone_record.specs.declared.record_line.RecordLineError.TheVariants.{NoType}
-use Rattle.dnw_zone_record.specs.RecordLines.{FailsHead, HasTtlAndClass, IsClassWord, IsHead, IsTtlWord, IsTypeWord, LacksTtlAfterClass, LacksTypeWord, after_next_word, next_offset, next_word}
+use Rattle.dnw_zone_data.specs.TypeLists.{IsTypeWord}
+use Rattle.dnw_zone_record.specs.RecordLines.{FailsHead, HasTtlAndClass, IsClassWord, IsHead, IsTtlWord, LacksTtlAfterClass, LacksTypeWord, after_next_word, next_offset, next_word}
 
 -- a class, and a word after it that is no time to live
 pub lacks_after : (left first rest second : List ℕ) (class : DNSClass) → first ≡ next_word left → rest ≡ after_next_word left → second ≡ next_word rest

@@ -3,10 +3,7 @@ use Rattle.std.proofs.Common.{◌≡◌, ℕ, ◌+◌, ◌-◌, ◌*◌, ◌<◌
 use Rattle.std.specs.Prelude.{option_map}
 use Rattle.std.specs.Char.{is_ascii_digit}
 use Rattle.std.specs.List.{list_all}
-use Rattle.std.specs.Str.{IsAscii}
 use Rattle.std.proofs.lemmas.Bool.{and_parts}
-use Rattle.std.proofs.lemmas.Str.{IsUtf8-from_ascii}
-use Rattle.std.proofs.lemmas.Str.Ascii.{IsAscii-nil, IsAscii-cons}
 use Rattle.dnw_zone_lexer.specs.Times.{groups_after, max_ttl, total_seconds}
 use Rattle.dnw_zone_record.specs.RecordLines.{IsTtlWord}
 
@@ -20,12 +17,6 @@ pub seconds_more : (text left rest : List ℕ) (n c : ℕ) → left ≡ c ∷ re
     → AreSeconds text (10 * n + (c - 48)) rest
 seconds_more text left rest n c is digit so = (so.0 ∙ rw (is, digit) refl, λ others. so.1 (rw (is, digit) others))
 
-digits_ascii : (text : List ℕ) → list_all is_ascii_digit text ≡ true → IsAscii text
-digits_ascii [] all = IsAscii-nil
-digits_ascii (c ∷ cs) all =
-    let parts = and_parts (is_ascii_digit c) (list_all is_ascii_digit cs) all in
-    IsAscii-cons c cs (grind (arith, parts.0)) (digits_ascii cs parts.1)
-
 pub seconds_all : (text left : List ℕ) (n : ℕ) → 0 < length text → length left ≡ 0 → n ≤ max_ttl → AreSeconds text n left → IsTtlWord text n
 seconds_all [] left n some none few so = absurd (omega (arith, some))
 seconds_all (c ∷ cs) (d ∷ left) n some none few so = absurd (omega (arith, none))
@@ -35,4 +26,4 @@ seconds_all (c ∷ cs) [] n some none few so =
     let one : total_seconds ((n, 1) ∷ []) ≡ n = omega arith in
     let first : groups_after None (c ∷ cs) ≡ groups_after (Some 0) (c ∷ cs) =
     let same : c - 48 ≡ 10 * 0 + (c - 48) = omega arith in rw digit (ap (λ (m : ℕ). groups_after (Some m) cs) same) in
-    (IsUtf8-from_ascii (c ∷ cs) (digits_ascii (c ∷ cs) digits), (ap (option_map total_seconds) (first ∙ so.0) ∙ ap Some one, few, rw digits refl))
+    (ap (option_map total_seconds) (first ∙ so.0) ∙ ap Some one, few, rw digits refl)

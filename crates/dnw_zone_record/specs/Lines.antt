@@ -7,6 +7,7 @@
 -- the next quote, in the same line. A backslash takes its meaning from the next octet, in quotes and outside; which octet the two
 -- stand for is left to who reads the word.
 use Rattle.std.specs.Prelude.{ℕ, suc, Bool, not, true, false, ◌||◌, ◌==◌, if◌then◌else◌, List, [], ◌∷◌, ◌++◌}
+use Rattle.dnw_zone_data.specs.Words.{is_plain_octet}
 use Rattle.dnw_zone_record.specs.declared.word_error.WordRule.TheVariants.{NestedParenthesis, UnopenedParenthesis, UnclosedParenthesis, UnclosedQuote, UnfinishedEscape}
 use Rattle.dnw_zone_record.specs.declared.scan.Place.{Place}
 use Rattle.dnw_zone_record.specs.declared.scan.Place.TheVariants.{Words, Escaped, Quoted, QuotedEscaped, Comment}
@@ -22,10 +23,6 @@ ends_line c = c == 10 || c == 13
 -- the end of a line ends the entry, or it is white space within parentheses
 abbrev pub at_line_end : Bool → Octet
 at_line_end grouped = if grouped then Blank Words true else End
-
--- Outside of quotes, escapes and comments, other octets are parts of words or white space.
-abbrev pub is_plain_octet : ℕ → Bool
-is_plain_octet c = not (c == 10 || c == 13 || c == 34 || c == 40 || c == 41 || c == 59 || c == 92)
 
 -- what these octets are there
 abbrev pub of_special : Bool → ℕ → Octet

@@ -5,7 +5,7 @@ use Rattle.std.specs.Int.{w16, w32, to_be_bytes}
 use Rattle.std.specs.Str.{IsUtf8}
 use Rattle.dnw_base.specs.Names.{NameValue, wire}
 use Rattle.dnw_base.specs.DnsClasses.{class_code, class_of_text, class_text}
-use Rattle.dnw_base.specs.RecordTypes.{type_code, type_of_text, type_text}
+use Rattle.dnw_base.specs.RecordTypes.{type_code, type_text}
 use Rattle.dnw_base.specs.declared.dns_class.DNSClass.{DNSClass}
 use Rattle.dnw_base.specs.declared.dns_class.DNSClass.TheVariants.{IN}
 use Rattle.dnw_base.specs.declared.record_type.RecordType.{RecordType}
@@ -20,6 +20,7 @@ use Rattle.dnw_base.specs.Limits.{max_data}
 use Rattle.dnw_zone_data.specs.NameReading.{named_at}
 use Rattle.dnw_zone_data.specs.NumberForms.{number_forms, IsPeriod}
 use Rattle.dnw_name_text.specs.NameTexts.{full_name_text}
+use Rattle.dnw_zone_data.specs.TypeLists.{IsTypeWord}
 use Rattle.dnw_zone_data.specs.Words.{after_spaces, after_word, is_asterisk, word}
 
 -- ---- printing
@@ -45,15 +46,11 @@ after_next_word left = after_word (after_spaces left)
 
 -- a word is a time to live of so many seconds, or with units
 abbrev pub IsTtlWord : List ℕ → ℕ → Type 0
-IsTtlWord text n = IsUtf8 text × IsPeriod text n
+IsTtlWord text n = IsPeriod text n
 
 -- a word is a class
 abbrev pub IsClassWord : List ℕ → DNSClass → Type 0
 IsClassWord text class = IsUtf8 text × (class_of_text text ≡ Some class) × (is_asterisk text ≡ false)
-
--- a word is a record type
-abbrev pub IsTypeWord : List ℕ → RecordType → Type 0
-IsTypeWord text kind = IsUtf8 text × (type_of_text text ≡ Some kind) × (is_asterisk text ≡ false)
 
 abbrev pub LacksTtlWord : List ℕ → Type 0
 LacksTtlWord left = (n : ℕ) → ¬ (IsTtlWord (next_word left) n)

@@ -2,23 +2,26 @@
 ghost use Rattle.std.specs.Prelude.{◌≡◌, ◌≤◌, ◌+◌, ◌-◌, ℕ, List, [], ◌∷◌, ◌++◌, length, take, drop, true, IfOk, IfErr, IfSome, MatchOption, string_bytes};
 ghost use Rattle.std.specs.Int.{w16, to_be_bytes};
 ghost use Rattle.std.specs.Option.{option_copied};
+ghost use Rattle.dnw_base.specs.Names.{wire};
 ghost use Rattle.dnw_base.specs.declared.dns_class.DNSClass.{DNSClass};
 ghost use Rattle.dnw_base.specs.declared.record_type.RecordType.{RecordType};
 ghost use Rattle.dnw_zone_data.specs.DataTexts.{IsDataText};
+ghost use Rattle.dnw_zone_data.specs.TypeLists.{IsTypeWord};
 ghost use Rattle.dnw_base.specs.Limits.{max_data};
-ghost use Rattle.dnw_zone_record.specs.RecordLines.{FailsAfterOwner, FailsDataOf, FailsHead, FailsRecordLine, FailsRecordOf, HasClassNext, HasTtlAndClass, IsAfterOwner, IsClassWord, IsDataOf, IsHead, IsRecordLine, IsRecordOf, IsTtlWord, IsTypeWord, LacksTtl, LacksTtlWord, LacksTypeWord, after_next_word, next_offset, next_word, record_line};
+ghost use Rattle.dnw_zone_record.specs.RecordLines.{FailsAfterOwner, FailsDataOf, FailsHead, FailsRecordLine, FailsRecordOf, HasClassNext, HasTtlAndClass, IsAfterOwner, IsClassWord, IsDataOf, IsHead, IsRecordLine, IsRecordOf, IsTtlWord, LacksTtl, LacksTtlWord, LacksTypeWord, after_next_word, next_offset, next_word, record_line};
 ghost use Rattle.dnw_zone_record.specs.Inside.Fronts.{front_octets};
 
 use dnw_base::dns_class::DNSClass;
-use dnw_base::limits::MAX_DATA;
+use dnw_base::limits::{MAX_DATA, MAX_NAME};
 use dnw_base::record_type::RecordType;
 use dnw_name::name::Name;
 use dnw_name_form::form::WireForm;
 use dnw_record::record_ref::RecordRef;
 use dnw_zone_data::data_text::{append_in_line, data_text};
 use dnw_zone_data::error::DataTextError;
-use dnw_zone_data::name::{fill_name, write_name};
+use dnw_zone_data::name::{fill_other, put_plain, write_name};
 use dnw_zone_data::number_form::period_seconds;
+use dnw_zone_data::types::type_of_word;
 use dnw_zone_data::words::{after_spaces, is_asterisk, split_word};
 use std::alloc::{AllocError, Global};
 use std::str;
@@ -141,26 +144,27 @@ pub(crate) fn record_of(
     ensures ok { IfOk result (λ own. IsRecordOf (option_copied origin.entry) word.now rest.now own.items) }
     ensures err { IfErr result (FailsRecordOf (option_copied origin.entry) len word.now rest.now) }
 {
+    let mut room = [0; MAX_NAME];
+    if let Some(own) = put_plain(&mut room, word) {
+        return after_owner(alloc, len, &room[..own], rest, origin);
+    }
     let mut owner = WireForm::new(alloc);
-    if !fill_name(&mut owner, word, origin) {
+    if !fill_other(&mut owner, word, origin) {
         return Err(RecordLineError::NoOwner);
     }
-    match after_owner(alloc, len, &owner, rest, origin) {
-        Ok(octets) => Ok(octets),
-        Err(error) => Err(error),
-    }
+    after_owner(alloc, len, owner.as_bytes(), rest, origin)
 }
 
-/// Returns the octets of a record of this owner, of which the text has the rest.
+/// Returns the octets of a record of the owner with this wire form, of which the text has the rest.
 fn after_owner(
     alloc: Global,
     len: usize,
-    owner: &WireForm,
+    owner: &[u8],
     left: &[u8],
     origin: Option<&Name>,
 ) -> Result<Vec<u8>, RecordLineError>
     requires within { length left.now ≤ len }
-    ensures ok { IfOk result (λ own. IsAfterOwner (option_copied origin.entry) owner.now left.now own.items) }
+    ensures ok { IfOk result (λ own. (labels : List (List ℕ)) → owner.now ≡ wire labels → IsAfterOwner (option_copied origin.entry) labels left.now own.items) }
     ensures err { IfErr result (FailsAfterOwner (option_copied origin.entry) len left.now) }
 {
     let (head, text) = head_of(len, left)?;
@@ -207,7 +211,7 @@ fn before_type(
     ensures err { IfErr result (λ e. (e ≡ RecordLineError.NoType (next_offset len left.now)) × LacksTypeWord left.now) }
 {
     let (word, rest) = next_word(left);
-    let Some(record_type) = type_of(word) else {
+    let Some(record_type) = type_of_word(word) else {
         return Err(RecordLineError::NoType {
             offset: len - after_spaces(left).len(),
         });
@@ -280,8 +284,7 @@ pub fn ttl_of(word: &[u8]) -> Option<u32>
     if let Some(seconds) = few_seconds(word) {
         return Some(seconds);
     }
-    let text = str::from_utf8(word).ok()?;
-    period_seconds(text)
+    period_seconds(word)
 }
 
 /// Returns the seconds that a word is, if it is digits alone and no digit brings them near 2^32, as those of most times to live.
@@ -323,54 +326,6 @@ fn is_internet(word: &[u8]) -> bool
     ensures { result ≡ true → IsClassWord word.now DNSClass.IN }
 {
     word == b"IN".as_slice()
-}
-
-/// Returns the record type that a word is. `*` is none: it asks for all types.
-pub fn type_of(word: &[u8]) -> Option<RecordType>
-    ensures { MatchOption result ((record_type : RecordType) → ¬ (IsTypeWord word.now record_type)) (IsTypeWord word.now) }
-{
-    if let Some(record_type) = usual_type(word) {
-        return Some(record_type);
-    }
-    if is_asterisk(word) {
-        return None;
-    }
-    let text = str::from_utf8(word).ok()?;
-    RecordType::from_text(text)
-}
-
-/// Returns the record type that a word is, for those that most records of zone files have.
-fn usual_type(word: &[u8]) -> Option<RecordType>
-    ensures { IfSome result (IsTypeWord word.now) }
-{
-    if word == b"A".as_slice() {
-        return Some(RecordType::A);
-    }
-    if word == b"NS".as_slice() {
-        return Some(RecordType::NS);
-    }
-    if word == b"AAAA".as_slice() {
-        return Some(RecordType::AAAA);
-    }
-    if word == b"RRSIG".as_slice() {
-        return Some(RecordType::RRSIG);
-    }
-    if word == b"NSEC3".as_slice() {
-        return Some(RecordType::NSEC3);
-    }
-    if word == b"DS".as_slice() {
-        return Some(RecordType::DS);
-    }
-    if word == b"MX".as_slice() {
-        return Some(RecordType::MX);
-    }
-    if word == b"TXT".as_slice() {
-        return Some(RecordType::TXT);
-    }
-    if word == b"CNAME".as_slice() {
-        return Some(RecordType::CNAME);
-    }
-    None
 }
 
 /// Returns the octets of the data that a text is.
@@ -417,11 +372,11 @@ fn append_data(
 }
 
 /// Returns the octets of a record before its data, with zeros for their length.
-fn front_octets(alloc: Global, owner: &WireForm, head: LineHead) -> Result<Vec<u8>, AllocError>
+fn front_octets(alloc: Global, owner: &[u8], head: LineHead) -> Result<Vec<u8>, AllocError>
     ensures { IfOk result (λ octets. octets.items ≡ front_octets owner.now head ++ 0 ∷ 0 ∷ []) }
 {
     let mut octets = Vec::with_capacity(alloc, FIRST_ROOM)?;
-    octets.extend_from_slice(owner.as_bytes())?;
+    octets.extend_from_slice(owner)?;
     octets.extend_from_slice(&u16::from(head.record_type).to_be_bytes())?;
     octets.extend_from_slice(&u16::from(head.class).to_be_bytes())?;
     octets.extend_from_slice(&head.ttl.to_be_bytes())?;

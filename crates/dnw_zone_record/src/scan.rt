@@ -1,32 +1,13 @@
 //! Entries of master files.
 ghost use Rattle.std.specs.Prelude.{◌≡◌, ◌≢◌, ◌==◌, ◌+◌, ◌-◌, ◌≤◌, ◌<◌, length, take, drop, not, IfOk, IfSome};
 ghost use Rattle.std.specs.List.{list_all};
+ghost use Rattle.dnw_zone_data.specs.Words.{is_plain_octet};
 ghost use Rattle.dnw_zone_record.specs.declared.scan.Ending.TheVariants.{Line, Text};
-ghost use Rattle.dnw_zone_record.specs.Lines.{end_at, is_kept, is_plain_octet, is_quoted, kept_len, at_line_end, line_of, of_quoted, of_special, on_octet};
+ghost use Rattle.dnw_zone_record.specs.Lines.{end_at, is_kept, is_quoted, kept_len, at_line_end, line_of, of_quoted, of_special, on_octet};
 
 use crate::word_error::WordRule;
+use dnw_zone_data::words::is_plain_octet;
 use std::alloc::AllocError;
-
-// 1 for each octet that is a part of a word or white space outside of quotes, escapes and comments, and 0 for each other one.
-#[rattlefmt::skip]
-static PLAIN: [u8; 256] = [
-    1, 1, 1, 1, 1, 1, 1, 1, 1, 1, 0, 1, 1, 0, 1, 1,
-    1, 1, 1, 1, 1, 1, 1, 1, 1, 1, 1, 1, 1, 1, 1, 1,
-    1, 1, 0, 1, 1, 1, 1, 1, 0, 0, 1, 1, 1, 1, 1, 1,
-    1, 1, 1, 1, 1, 1, 1, 1, 1, 1, 1, 0, 1, 1, 1, 1,
-    1, 1, 1, 1, 1, 1, 1, 1, 1, 1, 1, 1, 1, 1, 1, 1,
-    1, 1, 1, 1, 1, 1, 1, 1, 1, 1, 1, 1, 0, 1, 1, 1,
-    1, 1, 1, 1, 1, 1, 1, 1, 1, 1, 1, 1, 1, 1, 1, 1,
-    1, 1, 1, 1, 1, 1, 1, 1, 1, 1, 1, 1, 1, 1, 1, 1,
-    1, 1, 1, 1, 1, 1, 1, 1, 1, 1, 1, 1, 1, 1, 1, 1,
-    1, 1, 1, 1, 1, 1, 1, 1, 1, 1, 1, 1, 1, 1, 1, 1,
-    1, 1, 1, 1, 1, 1, 1, 1, 1, 1, 1, 1, 1, 1, 1, 1,
-    1, 1, 1, 1, 1, 1, 1, 1, 1, 1, 1, 1, 1, 1, 1, 1,
-    1, 1, 1, 1, 1, 1, 1, 1, 1, 1, 1, 1, 1, 1, 1, 1,
-    1, 1, 1, 1, 1, 1, 1, 1, 1, 1, 1, 1, 1, 1, 1, 1,
-    1, 1, 1, 1, 1, 1, 1, 1, 1, 1, 1, 1, 1, 1, 1, 1,
-    1, 1, 1, 1, 1, 1, 1, 1, 1, 1, 1, 1, 1, 1, 1, 1,
-];
 
 /// The octets that are looked at together.
 const BLOCK: usize = 16;
@@ -230,7 +211,7 @@ fn plain_mark(c: u8) -> u8
 fn after_quoted(text: &[u8]) -> &[u8]
     ensures { kept_len Place.Quoted text.now + length result.now ≡ length text.now }
 {
-    let mut left = text;
+    let mut left = after_quoted_blocks(text);
     while let Some((first, rest)) = left.split_first() {
         if !is_quoted(*first) {
             break;
@@ -238,6 +219,43 @@ fn after_quoted(text: &[u8]) -> &[u8]
         left = rest;
     }
     left
+}
+
+/// Returns what is left of a text after octets that are kept in quotes, a block at a time.
+#[inline(always)]
+fn after_quoted_blocks(text: &[u8]) -> &[u8]
+    ensures within { length result.now ≤ length text.now }
+    ensures kept { (length text.now - length result.now) + kept_len Place.Quoted result.now ≡ kept_len Place.Quoted text.now }
+{
+    let mut left = text;
+    'many: while left.len() >= BLOCK {
+        let (block, rest) = left.split_at(BLOCK);
+        if !are_quoted(block) {
+            break;
+        }
+        left = rest;
+    }
+    left
+}
+
+/// Returns `true` if octets in quotes are kept. It looks at all of them, as `are_plain` does.
+#[inline(always)]
+fn are_quoted(octets: &[u8]) -> bool
+    ensures { result ≡ list_all is_quoted octets.now }
+{
+    let mut least = 255;
+    for c in octets {
+        least = least.min(quoted_mark(*c));
+    }
+    least != 0
+}
+
+/// Returns 0 for an octet that in a quoted string is more than a part of it, and else another number. It does not branch.
+#[inline(always)]
+fn quoted_mark(c: u8) -> u8
+    ensures { not (result == 0) ≡ is_quoted c }
+{
+    (c ^ b'\n').min(c ^ b'"').min(c ^ b'\\')
 }
 
 /// Returns how the line ends if the text ends here.
@@ -287,15 +305,6 @@ fn octet_of(place: Place, grouped: bool, c: u8) -> Octet
             }
         }
     }
-}
-
-/// Returns `true` if an octet outside of quotes, escapes and comments is a part of a word or white space, and nothing more. A table
-/// takes one comparison.
-#[inline(always)]
-fn is_plain_octet(c: u8) -> bool
-    ensures { result ≡ is_plain_octet c }
-{
-    PLAIN[c as usize] == 1
 }
 
 /// Returns what an octet that is not plain is outside of quotes, escapes and comments.

@@ -122,7 +122,13 @@ fn digit(number: u8) -> u8
 pub fn parse_hash(text: &str, octets: &mut Vec<u8>) -> Result<(), FieldTextError>
     ensures { Appends HashWanted IsHashText text.now octets.old.items octets.new.items result }
 {
-    let digits = text.as_bytes();
+    read_hash(text.as_bytes(), octets)
+}
+
+/// Appends the octets of a hashed name that characters write, as `parse_hash` does.
+pub fn read_hash(digits: &[u8], octets: &mut Vec<u8>) -> Result<(), FieldTextError>
+    ensures { Appends HashWanted IsHashText digits.now octets.old.items octets.new.items result }
+{
     if !is_base32(digits) {
         return Err(FieldTextError::Hash);
     }

@@ -9,9 +9,9 @@ ghost use Rattle.dnw_zone_values.specs.Mnemonics.{algorithm_named, begins_with_d
 /// Numbers").
 ///
 /// ```
-/// assert_eq!(rt; algorithm_named("RSASHA256"), Some(8));
+/// assert_eq!(rt; algorithm_named(b"RSASHA256"), Some(8));
 /// ```
-pub fn algorithm_named(name: &str) -> Option<u8>
+pub fn algorithm_named(name: &[u8]) -> Option<u8>
     ensures { result ≡ algorithm_named name.now }
 {
     match name {
@@ -41,7 +41,7 @@ pub fn algorithm_named(name: &str) -> Option<u8>
 }
 
 /// Returns the number of a type of certificates by its mnemonic, in upper or lower case (RFC 4398, section 2.1).
-pub fn certificate_type_named(name: &str) -> Option<u8>
+pub fn certificate_type_named(name: &[u8]) -> Option<u8>
     ensures { result ≡ certificate_type_named name.now }
 {
     match name {
@@ -60,7 +60,7 @@ pub fn certificate_type_named(name: &str) -> Option<u8>
 }
 
 /// Returns the number of a scheme of DSYNC by its mnemonic, in upper or lower case (RFC 9859, section 2.1).
-pub fn scheme_named(name: &str) -> Option<u8>
+pub fn scheme_named(name: &[u8]) -> Option<u8>
     ensures { result ≡ scheme_named name.now }
 {
     if is_alike(name, "NOTIFY") {
@@ -71,7 +71,7 @@ pub fn scheme_named(name: &str) -> Option<u8>
 }
 
 /// Returns the number of a protocol by its name, in upper or lower case (IANA's registry "Protocol Numbers").
-pub fn protocol_named(name: &str) -> Option<u8>
+pub fn protocol_named(name: &[u8]) -> Option<u8>
     ensures { result ≡ protocol_named name.now }
 {
     match name {
@@ -87,7 +87,7 @@ pub fn protocol_named(name: &str) -> Option<u8>
 
 /// Returns the port of a service by its name, in upper or lower case (IANA's registry "Service Name and Transport Protocol Port
 /// Numbers"). It is the same for each protocol.
-pub fn service_named(name: &str) -> Option<u16>
+pub fn service_named(name: &[u8]) -> Option<u16>
     ensures { result ≡ service_named name.now }
 {
     match name {
@@ -128,18 +128,18 @@ pub fn service_named(name: &str) -> Option<u16>
 }
 
 /// Returns `true` if a text begins with a decimal digit.
-pub fn begins_with_digit(text: &str) -> bool
+pub fn begins_with_digit(text: &[u8]) -> bool
     ensures { result ≡ begins_with_digit text.now }
 {
-    match text.as_bytes().first() {
+    match text.first() {
         Some(c) => c.is_ascii_digit(),
         None => false,
     }
 }
 
 /// Returns `true` if two texts are the same but for upper and lower case.
-fn is_alike(text: &str, other: &str) -> bool
+fn is_alike(text: &[u8], other: &str) -> bool
     ensures { result ≡ str_eq_ignore_ascii_case text.now other.now }
 {
-    text.eq_ignore_ascii_case(other)
+    text.eq_ignore_ascii_case(other.as_bytes())
 }

@@ -67,7 +67,14 @@ impl fmt::Display for Salt<'_> {
 pub fn parse_hexadecimal(text: &str, octets: &mut Vec<u8>) -> Result<(), FieldTextError>
     ensures { Appends HexWanted IsHexText text.now octets.old.items octets.new.items result }
 {
-    append_hexadecimal(text, FieldTextError::Hexadecimal, octets)
+    read_hexadecimal(text.as_bytes(), octets)
+}
+
+/// Appends the octets that characters write in hexadecimal, as `parse_hexadecimal` does.
+pub fn read_hexadecimal(text: &[u8], octets: &mut Vec<u8>) -> Result<(), FieldTextError>
+    ensures { Appends HexWanted IsHexText text.now octets.old.items octets.new.items result }
+{
+    append_digits(text, FieldTextError::Hexadecimal, octets)
 }
 
 /// Appends the octets that a text writes in base 64 with its padding.
@@ -80,10 +87,17 @@ pub fn parse_hexadecimal(text: &str, octets: &mut Vec<u8>) -> Result<(), FieldTe
 pub fn parse_base64(text: &str, octets: &mut Vec<u8>) -> Result<(), FieldTextError>
     ensures { Appends Base64Wanted IsBase64Text text.now octets.old.items octets.new.items result }
 {
+    read_base64(text.as_bytes(), octets)
+}
+
+/// Appends the octets that characters write in base 64, as `parse_base64` does.
+pub fn read_base64(text: &[u8], octets: &mut Vec<u8>) -> Result<(), FieldTextError>
+    ensures { Appends Base64Wanted IsBase64Text text.now octets.old.items octets.new.items result }
+{
     if text.is_empty() {
         return Ok(());
     }
-    match STANDARD.decode_vec(text.as_bytes(), octets) {
+    match STANDARD.decode_vec(text, octets) {
         Ok(()) => Ok(()),
         Err(DecodeAllocError::OutOfMemory) => Err(FieldTextError::Memory),
         Err(DecodeAllocError::DecodeError(_)) => Err(FieldTextError::Base64),
@@ -96,24 +110,20 @@ pub fn parse_base64(text: &str, octets: &mut Vec<u8>) -> Result<(), FieldTextErr
 pub fn parse_salt(text: &str, octets: &mut Vec<u8>) -> Result<(), FieldTextError>
     ensures { Appends SaltWanted IsSaltText text.now octets.old.items octets.new.items result }
 {
-    if text == "-" {
+    read_salt(text.as_bytes(), octets)
+}
+
+/// Appends the octets of a salt that characters write, as `parse_salt` does.
+pub fn read_salt(text: &[u8], octets: &mut Vec<u8>) -> Result<(), FieldTextError>
+    ensures { Appends SaltWanted IsSaltText text.now octets.old.items octets.new.items result }
+{
+    if text == b"-".as_slice() {
         return Ok(());
     }
     match text.len() {
-        1..=510 => append_hexadecimal(text, FieldTextError::Salt, octets),
+        1..=510 => append_digits(text, FieldTextError::Salt, octets),
         _ => Err(FieldTextError::Salt),
     }
-}
-
-/// Appends the octets that a text writes in hexadecimal. Fails with `wanted` if the text is something else.
-fn append_hexadecimal(
-    text: &str,
-    wanted: FieldTextError,
-    octets: &mut Vec<u8>,
-) -> Result<(), FieldTextError>
-    ensures { Appends wanted IsHexText text.now octets.old.items octets.new.items result }
-{
-    append_digits(text.as_bytes(), wanted, octets)
 }
 
 /// Appends the octets that hexadecimal digits write. Fails with `wanted` if the characters are something else.

@@ -57,8 +57,15 @@ pub(crate) fn lower_digit(number: u8) -> u8
 pub fn parse_pairs(text: &str, octets: &mut Vec<u8>) -> Result<(), FieldTextError>
     ensures { Appends PairsWanted IsPairsText text.now octets.old.items octets.new.items result }
 {
+    read_pairs(text.as_bytes(), octets)
+}
+
+/// Appends the octets that characters write as pairs of digits, as `parse_pairs` does.
+pub fn read_pairs(text: &[u8], octets: &mut Vec<u8>) -> Result<(), FieldTextError>
+    ensures { Appends PairsWanted IsPairsText text.now octets.old.items octets.new.items result }
+{
     let start = octets.len();
-    match push_pairs(text.as_bytes(), octets) {
+    match push_pairs(text, octets) {
         Ok(true) => Ok(()),
         Ok(false) => {
             octets.truncate(start);

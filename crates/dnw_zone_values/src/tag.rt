@@ -29,7 +29,13 @@ pub fn tag_text(tag: &[u8]) -> Option<&str>
 pub fn parse_tag(text: &str, octets: &mut Vec<u8>) -> Result<(), FieldTextError>
     ensures { Appends TagWanted IsTagText text.now octets.old.items octets.new.items result }
 {
-    let tag = text.as_bytes();
+    read_tag(text.as_bytes(), octets)
+}
+
+/// Appends the octets of a tag that characters are, as `parse_tag` does.
+pub fn read_tag(tag: &[u8], octets: &mut Vec<u8>) -> Result<(), FieldTextError>
+    ensures { Appends TagWanted IsTagText tag.now octets.old.items octets.new.items result }
+{
     if !is_tag(tag) {
         return Err(FieldTextError::Tag);
     }

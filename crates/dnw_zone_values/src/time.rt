@@ -9,7 +9,7 @@ ghost use Rattle.dnw_zone_values.specs.Numbers.{max_u32};
 ghost use Rattle.dnw_zone_values.specs.declared.error.FieldTextError.TheVariants.{Time as TimeWanted};
 
 use crate::error::FieldTextError;
-use crate::number::parse_u32;
+use crate::number::number_up_to;
 use arrayvec::ArrayString;
 use jiff_core::civil::Date;
 
@@ -51,13 +51,24 @@ pub fn time_text(seconds: u32) -> ArrayString<DATE_LEN>
 pub fn parse_time(text: &str) -> Result<u32, FieldTextError>
     ensures { ReadsText TimeWanted (IsTimeText text.now) result }
 {
+    match read_time(text.as_bytes()) {
+        Some(seconds) => Ok(seconds),
+        None => Err(FieldTextError::Time),
+    }
+}
+
+/// Returns the seconds of the time that characters write, as `parse_time` parses one.
+pub fn read_time(text: &[u8]) -> Option<u32>
+    ensures { MatchOption result ((seconds : ℕ) → ¬ (IsTimeText text.now seconds)) (IsTimeText text.now) }
+{
     if text.len() == DATE_LEN {
-        return match date_seconds(text.as_bytes()) {
-            Some(seconds) => Ok(seconds),
-            None => Err(FieldTextError::Time),
+        return match date_seconds(text) {
+            Some(seconds) => Some(seconds),
+            None => None,
         };
     }
-    parse_u32(text).map_err(|_| FieldTextError::Time)
+    let seconds = number_up_to(text, 4294967295)?;
+    Some(seconds as u32)
 }
 
 /// Returns the seconds of a date with a time of day, if they are less than 2^32.

@@ -2,11 +2,10 @@
 use Rattle.std.specs.Prelude.{ℕ, List, ◌++◌}
 use Rattle.std.specs.Int.{w16, w32, to_be_bytes}
 use Rattle.dnw_base.specs.DnsClasses.{class_code}
-use Rattle.dnw_base.specs.Names.{wire}
 use Rattle.dnw_base.specs.RecordTypes.{type_code}
 use Rattle.dnw_zone_record.specs.declared.record_line.LineHead.{LineHead}
 
--- the owner, the type, the class and the time to live
-abbrev pub front_octets : List (List ℕ) → LineHead → List ℕ
+-- the wire form of the owner, the type, the class and the time to live
+abbrev pub front_octets : List ℕ → LineHead → List ℕ
 front_octets owner head =
-    wire owner ++ to_be_bytes w16 (type_code head.record_type) ++ to_be_bytes w16 (class_code head.class) ++ to_be_bytes w32 head.ttl
+    owner ++ to_be_bytes w16 (type_code head.record_type) ++ to_be_bytes w16 (class_code head.class) ++ to_be_bytes w32 head.ttl

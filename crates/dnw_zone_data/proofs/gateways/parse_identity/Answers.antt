@@ -24,4 +24,4 @@ returns c =
     let is = rw c.if-not-are_tag_and_key.false at c.are_tag_and_key.ensures in
     let are : AreTagAndKey tag key = rw (c.as_slice.ensures.value, c.as_slice-2.ensures.value) at is in
     let own : c.append_identity.new.out.items ≡ c.args.out.now.items ++ identity_wire c.in-Some.algorithm tag key = rw (c.as_slice-3.ensures.value, c.as_slice-4.ensures.value) at c.in_ok-append_identity.ensures in
-    (of_shape HostIdentity (identity_wire c.in-Some.algorithm tag key), (c.in-Some.algorithm, tag, key, c.in-Some.ensures, hex.0, hex.1, base.0, base.1, are, refl), own)
+    (of_shape HostIdentity (identity_wire c.in-Some.algorithm tag key), (c.in-Some.algorithm, tag, key, c.in-Some.ensures, hex, base, are, refl), own)

@@ -1,7 +1,4 @@
-use Rattle.std.proofs.Common.{List, ℕ, sym, subst}
-use Rattle.std.specs.Net.Grammar.{IsIpv4Text}
 use Rattle.dnw_zone_data.proofs.gateways.push_ipv4.Goals as goal
 
-pub returns-in_default-parse_ipv4 : goal.returns-in_default-parse_ipv4
-returns-in_default-parse_ipv4 c =
-    λ own is. c.in_default-parse_ipv4.ensures.1 is.0 (subst (λ (t : List ℕ). IsIpv4Text t is.0) (sym c.in-Ok.ensures.cases.0) is.2)
+pub returns-in_default : goal.returns-in_default
+returns-in_default c = λ own is. c.in_default.ensures is.0 is.1

@@ -10,6 +10,6 @@ returns-then-size-eq0 c =
 
 pub returns-else-size-eq0 : goal.returns-else-size-eq0
 returns-else-size-eq0 c = λ octets is.
-    let none : Ok octets ≡ Ok [] = sym is.1 ∙ (hex_words [] (λ i. omega arith)).1 in
+    let none : Ok octets ≡ Ok [] = sym is.0 ∙ (hex_words [] (λ i. omega arith)).0 in
     let same : octets ≡ [] = cc in
-    omega (arith, is.2, ap length same, c.if-size-eq0.false)
+    omega (arith, is.1, ap length same, c.if-size-eq0.false)

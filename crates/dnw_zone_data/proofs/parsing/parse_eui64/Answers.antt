@@ -7,4 +7,4 @@ pub returns : goal.returns
 returns c =
     let own : List ℕ = c.in-Some.own.items in
     let is = rw c.in-Some.is at c.in_ok-own.ensures in
-    (eui64 own, (own, c.utf8.text, is.0, is.1, refl), c.in_ok-extend_from_slice.ensures.items ∙ ap (λ (xs : List ℕ). c.args.out.now.items ++ xs) (c.as_slice.ensures.value ∙ sym (wire_64 c.args.text.now own is.0 is.1)))
+    (eui64 own, (own, is.0, is.1, refl), c.in_ok-extend_from_slice.ensures.items ∙ ap (λ (xs : List ℕ). c.args.out.now.items ++ xs) (c.as_slice.ensures.value ∙ sym (wire_64 c.args.text.now own is.0 is.1)))

@@ -1,5 +1,5 @@
 use Rattle.std.proofs.Common.{List, ℕ, sym, subst}
-use Rattle.dnw_zone_record.specs.RecordLines.{IsTypeWord}
+use Rattle.dnw_zone_data.specs.TypeLists.{IsTypeWord}
 use Rattle.dnw_zone_file.proofs.head.head_of.Goals as goal
 
 pub returns-in_default-clause-err : goal.returns-in_default-clause-err

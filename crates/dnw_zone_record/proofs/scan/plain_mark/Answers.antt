@@ -1,6 +1,6 @@
 use Rattle.std.proofs.Common.{◌==◌, not, ℕ, min, bit_and, bit_xor, refl, arith}
 use Rattle.std.proofs.lemmas.Bool.{agree_below_at}
-use Rattle.dnw_zone_record.specs.Lines.{is_plain_octet}
+use Rattle.dnw_zone_data.specs.Words.{is_plain_octet}
 use Rattle.dnw_zone_record.proofs.scan.plain_mark.Goals as goal
 
 -- it is so for each octet

@@ -1,6 +1,6 @@
 use Rattle.std.proofs.Common.{sym, ◌∙◌}
-use Rattle.dnw_zone_record.proofs.UsualWords as usual
-use Rattle.dnw_zone_record.proofs.record_line.usual_type.Goals as goal
+use Rattle.dnw_zone_data.proofs.UsualWords as usual
+use Rattle.dnw_zone_data.proofs.types.usual_type.Goals as goal
 
 pub returns-then-eq : goal.returns-then-eq
 returns-then-eq c = usual.usual_a c.args.word.now c.as_slice.result.now (sym c.eq.ensures ∙ c.if-eq.true) c.as_slice.ensures
