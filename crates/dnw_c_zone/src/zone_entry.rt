@@ -2,6 +2,7 @@
 ghost use Rattle.std.specs.Prelude.{◌≡◌, ◌≤◌, ◌++◌, ℕ, ◌+◌, List, length, take, drop, IfOk, IfErr, IfSome, IfNone};
 ghost use Rattle.dnw_base.specs.Limits.{max_data, max_name};
 ghost use Rattle.dnw_c_zone.specs.Inside.RecordHeads.{record_head};
+ghost use Rattle.dnw_c_zone.specs.Inside.StateResults.{with_entry};
 ghost use Rattle.dnw_name_read.specs.Buffers.{put};
 ghost use Rattle.dnw_c_base.specs.declared.failure.Failure.TheVariants.{NoMemory};
 ghost use Rattle.dnw_c_zone.specs.ZoneStates.{owner_form};
@@ -57,7 +58,7 @@ pub struct ZoneEntry {
     pub record_class: u16,
 }
 
-/// Puts what a text begins with that begins at a place, and returns what C learns of it.
+/// Puts what a text begins with that begins at a place, and stores what C learns of it. It is not made elsewhere and moved.
 pub(crate) fn put_found(
     alloc: Global,
     at: FilePlace,
@@ -65,23 +66,35 @@ pub(crate) fn put_found(
     context: &Context,
     step: &Step,
     octets: &mut [u8],
-) -> Result<ZoneEntry, Failure>
-    ensures { PutsFound at text.now context.now step.now.used step.now.found octets.old octets.new result }
+    entry: &mut ZoneEntry,
+) -> Result<(), Failure>
+    ensures puts { PutsFound at text.now context.now step.now.used step.now.found octets.old octets.new (with_entry result entry.new) }
+    ensures same { IfErr result (λ _. entry.new ≡ entry.old) }
 {
     let used = step.used;
     match &step.found {
-        Ok(Found::End) => Ok(plain_entry(at, 0, used)),
-        Ok(Found::More) => Ok(plain_entry(at, 1, used)),
-        Ok(Found::Entry(Entry::Nothing)) => Ok(plain_entry(at, 2, used)),
-        Ok(Found::Entry(Entry::Record(found))) => { put_record(at, used, context, found, octets) }
-        Ok(Found::Entry(Entry::Include(include))) => {
-            put_include(alloc, at, used, text, include, octets)
+        Ok(Found::End) => put_plain(entry, at, 0, used),
+        Ok(Found::More) => put_plain(entry, at, 1, used),
+        Ok(Found::Entry(Entry::Nothing)) => put_plain(entry, at, 2, used),
+        Ok(Found::Entry(Entry::Record(found))) => {
+            return put_record(at, used, context, found, octets, entry);
         }
-        Err(error) => match fault_in(text, error) {
-            Ok(fault) => Ok(fault_entry(at, text, used, fault)),
-            Err(failure) => Err(failure),
-        },
+        Ok(Found::Entry(Entry::Include(include))) => {
+            *entry = put_include(alloc, at, used, text, include, octets)?;
+        }
+        Err(error) => {
+            let fault = fault_in(text, error)?;
+            *entry = fault_entry(at, text, used, fault);
+        }
     }
+    Ok(())
+}
+
+/// Stores what C learns of what puts nothing.
+fn put_plain(entry: &mut ZoneEntry, at: FilePlace, kind: u32, used: usize)
+    ensures { entry.new ≡ plain_entry at kind used }
+{
+    *entry = plain_entry(at, kind, used);
 }
 
 /// Returns what C learns of what puts nothing.
@@ -111,8 +124,10 @@ fn put_record(
     context: &Context,
     found: &ZoneRecord,
     octets: &mut [u8],
-) -> Result<ZoneEntry, Failure>
-    ensures { PutsRecord at used (owner_form context.now.owner) found.now octets.old octets.new result }
+    entry: &mut ZoneEntry,
+) -> Result<(), Failure>
+    ensures puts { PutsRecord at used (owner_form context.now.owner) found.now octets.old octets.new (with_entry result entry.new) }
+    ensures same { IfErr result (λ _. entry.new ≡ entry.old) }
 {
     let owner = owner_form(context);
     if found.wire.len() > MAX_DATA {
@@ -123,15 +138,14 @@ fn put_record(
         return Err(Failure::NoRoom);
     }
     put_pieces(octets, owner, &record_head(found), found.wire.as_slice());
-    Ok(ZoneEntry {
-        len,
-        name_len: owner.len(),
-        data_len: found.wire.len(),
-        ttl: found.ttl,
-        record_type: found.record_type.code(),
-        record_class: found.class.code(),
-        ..plain_entry(at, 3, used)
-    })
+    put_plain(entry, at, 3, used);
+    entry.len = len;
+    entry.name_len = owner.len();
+    entry.data_len = found.wire.len();
+    entry.ttl = found.ttl;
+    entry.record_type = found.record_type.code();
+    entry.record_class = found.class.code();
+    Ok(())
 }
 
 /// Returns the octets of a record between its owner and its data.

@@ -1,7 +1,7 @@
 //! Zone files, entry by entry, of which the caller keeps the state and has the text in parts.
 ghost use Rattle.std.specs.Prelude.{◌≡◌, IfOk, IfErr};
 ghost use Rattle.dnw_c_base.specs.Results.{Returns};
-ghost use Rattle.dnw_c_zone.specs.Inside.StateResults.{with_state};
+ghost use Rattle.dnw_c_zone.specs.Inside.StateResults.{with_entry, with_state};
 ghost use Rattle.dnw_c_zone.specs.ZoneFileCalls.{BeginsZone, IncludesFile, IsGivenOrigin, LacksOrigin, TakesZoneEntry};
 
 use crate::parsing::origin_of;
@@ -53,7 +53,7 @@ pub extern "C" fn dnw_zone_next(
 ) -> u32
     ensures { Returns (TakesZoneEntry text.now more zone.old octets.old octets.new) (entry.old, zone.old) (entry.new, zone.new) result }
 {
-    report(next(alloc, text, more, zone, octets), entry)
+    report(next(alloc, text, more, zone, octets, entry), &mut ())
 }
 
 /// Returns the state before the first entry.
@@ -88,16 +88,17 @@ pub(crate) fn name_of(alloc: Global, form: &[u8]) -> Result<Name, Failure>
     }
 }
 
-/// Puts what a text begins with, and moves past it. Returns what C learns of it.
+/// Puts what a text begins with, stores what C learns of it, and moves past it. If it fails, the entry and the state are unchanged.
 fn next(
     alloc: Global,
     text: &[u8],
     more: bool,
     zone: &mut ZoneState,
     octets: &mut [u8],
-) -> Result<ZoneEntry, Failure>
-    ensures takes { TakesZoneEntry text.now more zone.old octets.old octets.new (with_state result zone.new) }
-    ensures same { IfErr result (λ _. zone.new ≡ zone.old) }
+    entry: &mut ZoneEntry,
+) -> Result<(), Failure>
+    ensures takes { TakesZoneEntry text.now more zone.old octets.old octets.new (with_state (with_entry result entry.new) zone.new) }
+    ensures same { IfErr result (λ _. (entry.new ≡ entry.old) × (zone.new ≡ zone.old)) }
 {
     let mut context = Context::new(Name::root(alloc));
     if !fill_context(alloc, &mut context, zone) {
@@ -106,10 +107,10 @@ fn next(
     let at = place_of_state(zone);
     let mut line = Vec::new(alloc);
     let step = take_entry(alloc, &mut context, text, more, &mut line);
-    match put_found(alloc, at, text, &context, &step, octets) {
-        Ok(entry) => {
+    match put_found(alloc, at, text, &context, &step, octets, entry) {
+        Ok(()) => {
             put_state(zone, &context, moved(at, text, step.used));
-            Ok(entry)
+            Ok(())
         }
         Err(failure) => Err(failure),
     }
