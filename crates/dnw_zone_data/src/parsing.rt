@@ -93,6 +93,7 @@ fn wanted_at(alloc: Global, form: NumberForm, kind: Kind, left: &[u8]) -> Result
 }
 
 /// Appends the octets of the field that a text begins with, whose number is in a form. Returns what is after it, or `None` if it is none of this kind.
+#[inline(always)]
 fn parse_field<'t>(
     alloc: Global,
     form: NumberForm,
@@ -108,6 +109,7 @@ fn parse_field<'t>(
 }
 
 /// Appends the octets of the field that so many words are, whose number is in a form. Returns what is after them, or `None` if they are none of this kind.
+#[inline(always)]
 fn parse_by<'t>(
     alloc: Global,
     extent: Extent,

@@ -269,6 +269,7 @@ fn class_or_in(text: &[u8]) -> (DNSClass, &[u8])
 }
 
 /// Returns the next word of a text, and what is after it.
+#[inline(always)]
 pub fn next_word(text: &[u8]) -> (&[u8], &[u8])
     ensures word { result.0.now ≡ next_word text.now }
     ensures rest { result.1.now ≡ after_next_word text.now }
