@@ -148,6 +148,7 @@ unfoldable pub use Rattle.dnw_zone_data.specs.NumberForms.{number_forms}
 pub use Rattle.dnw_zone_data.specs.declared.number_form.NumberForm.{NumberForm}
 pub use Rattle.dnw_zone_data.specs.DataTexts.{ArePlain, FailsText, IsDataText, IsPlainData, IsTextOf, stand_in, text_kinds}
 pub use Rattle.dnw_zone_data.specs.Generic.{generic_text, IsGeneric}
+pub use Rattle.dnw_zone_record.specs.RecordEntries.{FailsRecordEntry, IsRecordEntry}
 pub use Rattle.dnw_zone_record.specs.RecordLines.{FailsRecordLine, IsRecordLine, line_octets, record_line}
 pub use Rattle.dnw_zone_data.specs.declared.error.DataTextError.{DataTextError}
 pub use Rattle.dnw_zone_data.specs.declared.error.DataTextError.TheVariants.{Memory as OutOfMemory}

@@ -1,4 +1,8 @@
 //! Names: their wire forms and sort keys, reverse names, and canonical order.
+ghost use Rattle.std.specs.Prelude.{◌≡◌, [], ◌∷◌, ◌++◌, ◌⊎◌, List, ℕ, IfOk, IfErr, OnOk};
+ghost use Rattle.std.specs.String.{string_bytes};
+ghost use Rattle.dnw_shell_base.specs.Refusals.{IsMemory};
+ghost use Rattle.dnw_shell_names.specs.Shown.{AreLines, FailsWord, FailsLines, IsLineOf, texts_of};
 
 use dns_names_wire::name::Name;
 use dns_names_wire::sort_key::MAX_SORT_KEY_LENGTH;
@@ -17,24 +21,44 @@ pub enum Shown {
     Reverse,
 }
 
-/// Returns a line for each word.
-pub fn lines(alloc: Global, shown: Shown, words: &[&str]) -> Result<String, Refusal> {
+/// Returns a line for each word. It fails at the first word that is no name, or no address, or if an allocation fails.
+pub fn lines(alloc: Global, shown: Shown, words: &[&str]) -> Result<String, Refusal>
+    ensures ok { IfOk result (λ text. AreLines shown (texts_of words.now) (string_bytes text)) }
+    ensures err { IfErr result (λ refusal. FailsLines shown (texts_of words.now) refusal ⊎ IsMemory refusal) }
+{
     let mut text = String::new(alloc);
-    for word in words {
-        push_line(alloc, shown, word, &mut text)?;
-    }
+    push_lines(alloc, shown, words, &mut text)?;
     Ok(text)
 }
 
+/// Appends a line for each word to an empty text.
+#[tactic(auto, using(crate::proofs::Lines::no_line, crate::proofs::Lines::one_line, crate::proofs::Lines::all_lines, crate::proofs::Lines::no_more))]
+fn push_lines(alloc: Global, shown: Shown, words: &[&str], text: &mut String) -> Result<(), Refusal>
+    requires { string_bytes text.old ≡ [] }
+    ensures ok { OnOk result (AreLines shown (texts_of words.now) (string_bytes text.new)) }
+    ensures err { IfErr result (λ refusal. FailsLines shown (texts_of words.now) refusal ⊎ IsMemory refusal) }
+{
+    'words: for word in words {
+        push_line(alloc, shown, word, text)?;
+    }
+    Ok(())
+}
+
 /// Appends the line of a word, and a line feed.
-fn push_line(alloc: Global, shown: Shown, word: &str, text: &mut String) -> Result<(), Refusal> {
+fn push_line(alloc: Global, shown: Shown, word: &str, text: &mut String) -> Result<(), Refusal>
+    ensures ok { OnOk result ((line : List ℕ) × IsLineOf shown word.now line × (string_bytes text.new ≡ string_bytes text.old ++ (line ++ 10 ∷ []))) }
+    ensures err { IfErr result (λ refusal. FailsWord shown word.now refusal ⊎ IsMemory refusal) }
+{
     text.push_str(line(alloc, shown, word)?.as_str())?;
     text.push('\n')?;
     Ok(())
 }
 
 /// Returns the line of a word.
-fn line(alloc: Global, shown: Shown, word: &str) -> Result<String, Refusal> {
+fn line(alloc: Global, shown: Shown, word: &str) -> Result<String, Refusal>
+    ensures ok { IfOk result (λ line. IsLineOf shown word.now (string_bytes line)) }
+    ensures err { IfErr result (λ refusal. FailsWord shown word.now refusal ⊎ IsMemory refusal) }
+{
     match shown {
         Shown::Wire => {
             let name = Name::from_text(alloc, word, None)?;

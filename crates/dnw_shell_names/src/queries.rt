@@ -1,4 +1,9 @@
 //! Queries.
+ghost use Rattle.std.specs.Prelude.{◌≡◌, true, replicate, IfOk, IfErr, OnOk};
+ghost use Rattle.std.specs.String.{string_bytes};
+ghost use Rattle.hex.specs.Hex.{encode_lower};
+ghost use Rattle.dnw_shell_base.specs.Refusals.{IsMemory};
+ghost use Rattle.dnw_shell_names.specs.Asking.{SaysEdns, FailsQuestion, FailsToSayEdns, FailsToAsk, FailsToWrite, HasQuestion, IsQueryOf, IsAsked, framed, query_room};
 
 use dns_names_wire::dns_class::DNSClass;
 use dns_names_wire::message_writer::{Edns, WriteError, WriterState};
@@ -33,25 +38,59 @@ pub struct Asked {
     pub options: Vec<u8>,
 }
 
-/// Returns a query for the records of a type that a name has, in the class IN. It asks for recursion.
-pub fn query(alloc: Global, asked: &Asked) -> Result<Vec<u8>, Refusal> {
+/// Returns a query for the records of a type that a name has, in the class IN. It asks for recursion. It fails if the options are none,
+/// or have no room in a message, or if an allocation fails.
+pub fn query(alloc: Global, asked: &Asked) -> Result<Vec<u8>, Refusal>
+    ensures ok { IfOk result (λ message. IsQueryOf asked.now message.items) }
+    ensures err { IfErr result (FailsToAsk asked.now) }
+{
     let mut message = Vec::new(alloc);
     message.resize(MAX_QUERY.saturating_add(asked.options.len()), 0)?;
-    let room = message.len();
     let mut writer = WriterState::new();
-    let octets = message.as_mut_slice();
-    writer.begin(octets, asked.id, ASKING, room)?;
-    let (code, class) = (asked.record_type.code(), DNSClass::IN.code());
-    writer.question(octets, asked.name.wire_labels(), code, class)?;
-    if asked.has_edns {
-        add_edns(asked, &mut writer, octets)?;
-    }
+    write_query(asked, &mut writer, message.as_mut_slice())?;
     message.truncate(writer.end);
     Ok(message)
 }
 
+/// Writes the query into a buffer of zeros.
+fn write_query(
+    asked: &Asked,
+    writer: &mut WriterState,
+    message: &mut [u8],
+) -> Result<(), WriteError>
+    requires { message.old ≡ replicate (query_room asked.now) 0 }
+    ensures ok { OnOk result (IsAsked asked.now writer.new message.new) }
+    ensures err { IfErr result (FailsToWrite asked.now) }
+{
+    write_question(asked, writer, message)?;
+    if asked.has_edns {
+        add_edns(asked, writer, message)?;
+    }
+    Ok(())
+}
+
+/// Writes the header and the question.
+fn write_question(
+    asked: &Asked,
+    writer: &mut WriterState,
+    message: &mut [u8],
+) -> Result<(), WriteError>
+    requires { message.old ≡ replicate (query_room asked.now) 0 }
+    ensures ok { OnOk result (HasQuestion asked.now writer.new message.new) }
+    ensures err { IfErr result (FailsQuestion asked.now) }
+{
+    let room = message.len();
+    writer.begin(message, asked.id, ASKING, room)?;
+    let (code, class) = (asked.record_type.code(), DNSClass::IN.code());
+    writer.question(message, asked.name.wire_labels(), code, class)?;
+    Ok(())
+}
+
 /// Adds the `OPT` record.
-fn add_edns(asked: &Asked, writer: &mut WriterState, message: &mut [u8]) -> Result<(), WriteError> {
+fn add_edns(asked: &Asked, writer: &mut WriterState, message: &mut [u8]) -> Result<(), WriteError>
+    ensures ok { OnOk result (SaysEdns true asked.now writer.old message.old writer.new message.new) }
+    ensures err { IfErr result (FailsToSayEdns asked.now writer.old message.old) }
+{
     let edns = Edns {
         max_payload: MAX_PAYLOAD,
         rcode_high: 0,
@@ -59,11 +98,16 @@ fn add_edns(asked: &Asked, writer: &mut WriterState, message: &mut [u8]) -> Resu
         dnssec_ok: asked.dnssec_ok,
         options: asked.options.as_slice(),
     };
-    writer.edns(message, 0, &edns, 0)
+    writer.edns(message, 0, &edns, 0)?;
+    Ok(())
 }
 
 /// Returns the hexadecimal digits of a message, after those of its length in two octets if it is framed (RFC 1035, section 4.2.2).
-pub fn digits(alloc: Global, message: &[u8], is_framed: bool) -> Result<String, Refusal> {
+/// It fails only if an allocation fails.
+pub fn digits(alloc: Global, message: &[u8], is_framed: bool) -> Result<String, Refusal>
+    ensures ok { IfOk result (λ text. string_bytes text ≡ encode_lower (framed is_framed message.now)) }
+    ensures err { IfErr result IsMemory }
+{
     let mut octets = Vec::new(alloc);
     if is_framed {
         let len = u16::try_from(message.len()).unwrap_or(u16::MAX);
