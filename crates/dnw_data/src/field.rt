@@ -221,6 +221,7 @@ fn own_at<'r>(kind: Kind, reader: &BinDecoder<'r>) -> Result<&'r [u8], DecodeErr
 }
 
 /// Returns how many octets a field takes of those that are left. It is more than there are if the data end within it.
+#[inline(always)]
 fn own_size(kind: Kind, left: &[u8]) -> usize
     ensures { result ≡ own_size kind left.now }
 {

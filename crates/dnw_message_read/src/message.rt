@@ -66,6 +66,7 @@ impl<'m> MessageRef<'m> {
     ///
     /// It fails at the first item that is not there. The names of its questions and the owners of its records may follow 65,536
     /// pointers in all; `read_limited` takes another number.
+    #[inline(always)]
     pub fn read(octets: &'m [u8]) -> Result<Self, MessageError>
         ensures ok { IfOk result (λ m. (k : ℕ) × MessageAt octets.now m k × (k ≤ max_pointers)) }
         ensures err { IfErr result (FailsMessage octets.now max_pointers) }
@@ -78,6 +79,7 @@ impl<'m> MessageRef<'m> {
     /// So the time that it takes is linear in the number of octets and in `max_pointers`: each item costs its own octets, the
     /// pointers of its name, and at most 128 labels. Without a limit a chain of 8,000 pointers, with 4,000 records that each
     /// begin at its end, would follow 32 million pointers in 64 KB.
+    #[inline(always)]
     pub fn read_limited(octets: &'m [u8], max_pointers: usize) -> Result<Self, MessageError>
         ensures ok { IfOk result (λ m. (k : ℕ) × MessageAt octets.now m k × (k ≤ max_pointers)) }
         ensures err { IfErr result (FailsMessage octets.now max_pointers) }
