@@ -1,5 +1,6 @@
 //! How every record is written: its fields in turn, and whole or not at all.
-ghost use Rattle.std.specs.Prelude.{◌≡◌};
+ghost use Rattle.std.specs.Prelude.{◌≡◌, ◌≤◌, length};
+ghost use Rattle.dnw_write.specs.Checkpoints.{rewound};
 ghost use Rattle.dnw_write.specs.EncoderValue.{value, lender};
 ghost use Rattle.dnw_record.specs.Inside.Going.{WritesOn};
 ghost use Rattle.dnw_record.specs.WrittenRecords.{EmitsWhole, FixedFit, InOrder, fixed_octets};
@@ -8,7 +9,7 @@ use dnw_base::dns_class::DNSClass;
 use dnw_base::error::ProtoResult;
 use dnw_base::record_type::RecordType;
 use dnw_write::binary::BinEncodable;
-use dnw_write::encoder::BinEncoder;
+use dnw_write::encoder::{BinEncoder, Checkpoint};
 
 /// Writes the owner, the type, the class and the time to live, and the data after their length. If one of them fails, the encoder is
 /// put back to where it was.
@@ -30,9 +31,18 @@ pub(crate) fn emit_record<N: BinEncodable, D: BinEncodable>(
     let checkpoint = encoder.checkpoint();
     let outcome = emit_fields(owner, &fixed, rdata, encoder);
     if outcome.is_err() {
-        encoder.rewind(checkpoint);
+        undo(encoder, checkpoint);
     }
     outcome
+}
+
+/// Puts an encoder back to where it was before a record that is not written.
+fn undo(encoder: &mut BinEncoder<'_>, checkpoint: Checkpoint)
+    requires { checkpoint.offset ≤ length (value encoder.old).bytes }
+    ensures value { value encoder.new ≡ rewound (value encoder.old) checkpoint }
+    ensures lender { lender encoder.new ≡ lender encoder.old }
+{
+    encoder.rewind(checkpoint);
 }
 
 /// Writes all of these in turn, up to the first that fails.
