@@ -325,26 +325,18 @@ unfolding fields_of
 some_data class code [] some = absurd (some refl)
 some_data class code (octet ∷ octets) some = refl
 
-two_alone : (class : ℕ) (octets : List ℕ) → fields_of_some class 2 octets ≡ kinds.Name Compressible ∷ []
-unfolding is_internet_type
-two_alone class octets = elim (cases_Bool (is_like_internet class)) [ inl like ↦ rw like refl | inr other ↦ rw other refl ]
-
-five_alone : (class : ℕ) (octets : List ℕ) → fields_of_some class 5 octets ≡ kinds.Name Compressible ∷ []
-unfolding is_internet_type
-five_alone class octets = elim (cases_Bool (is_like_internet class)) [ inl like ↦ rw like refl | inr other ↦ rw other refl ]
-
-twelve_alone : (class : ℕ) (octets : List ℕ) → fields_of_some class 12 octets ≡ kinds.Name Compressible ∷ []
-unfolding is_internet_type
-twelve_alone class octets = elim (cases_Bool (is_like_internet class)) [ inl like ↦ rw like refl | inr other ↦ rw other refl ]
+in_all_classes : (class code : ℕ) (octets : List ℕ) → is_internet_type code ≡ false → fields_of_some class code octets ≡ fields_in_internet code octets
+in_all_classes class code octets every = elim (cases_Bool (is_like_internet class)) [ inl like ↦ rw like refl | inr other ↦ rw (other, every) refl ]
 
 pub named_alone : (class code : ℕ) (octets : List ℕ) → is_usual_name code ≡ true → octets ≢ [] → fields_of class code octets ≡ kinds.Name Compressible ∷ []
+unfolding is_internet_type
 named_alone class code octets is some = some_data class code octets some ∙ elim (cases_Bool (code == 2)) [
-  | inl two ↦ ap (λ n. fields_of_some class n octets) (eqb-true code 2 two) ∙ two_alone class octets
+  | inl two ↦ ap (λ n. fields_of_some class n octets) (eqb-true code 2 two) ∙ in_all_classes class 2 octets refl
   | inr not_two ↦ elim (cases_Bool (code == 5)) [
-    | inl five ↦ ap (λ n. fields_of_some class n octets) (eqb-true code 5 five) ∙ five_alone class octets
+    | inl five ↦ ap (λ n. fields_of_some class n octets) (eqb-true code 5 five) ∙ in_all_classes class 5 octets refl
     | inr not_five ↦
         let twelve : (code == 12) ≡ true = rw (not_two, not_five) at is in
-        ap (λ n. fields_of_some class n octets) (eqb-true code 12 twelve) ∙ twelve_alone class octets
+        ap (λ n. fields_of_some class n octets) (eqb-true code 12 twelve) ∙ in_all_classes class 12 octets refl
   ]
 ]
 

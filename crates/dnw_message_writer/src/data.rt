@@ -27,6 +27,19 @@ const MOST_PIECES: usize = 3;
 /// The code of MX: no later type has a name that may be compressed (RFC 3597, section 4).
 const LAST_COMPRESSED: u16 = 15;
 
+// The codes of the class and the types of most data: an address, or a name alone.
+const IN: u16 = 1;
+
+const A: u16 = 1;
+
+const NS: u16 = 2;
+
+const CNAME: u16 = 5;
+
+const PTR: u16 = 12;
+
+const AAAA: u16 = 28;
+
 /// The pieces of the data of a record.
 ///
 /// A contract sees them as their list.
@@ -122,12 +135,12 @@ fn usual_kind(class: u16, record_type: u16) -> Option<Kind>
     if is_usual_name(record_type) {
         return Some(Kind::Name(NameForm::Compressible));
     }
-    if class != 1 {
+    if class != IN {
         return None;
     }
     match record_type {
-        1 => Some(Kind::Ipv4),
-        28 => Some(Kind::Ipv6),
+        A => Some(Kind::Ipv4),
+        AAAA => Some(Kind::Ipv6),
         _ => None,
     }
 }
@@ -137,7 +150,7 @@ fn usual_kind(class: u16, record_type: u16) -> Option<Kind>
 fn is_usual_name(record_type: u16) -> bool
     ensures { result ≡ is_usual_name record_type }
 {
-    record_type == 2 || record_type == 5 || record_type == 12
+    record_type == NS || record_type == CNAME || record_type == PTR
 }
 
 /// Returns the piece that data of a type, by its code, with fields of these kinds are, as `only_piece_of` does.
