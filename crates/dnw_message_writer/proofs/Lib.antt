@@ -5,6 +5,7 @@ pub mod Passing
 pub mod Counting
 pub mod DataBack
 pub mod Fitting
+pub mod Eights
 pub mod GivenData
 pub mod GivenRecords
 pub mod Going

@@ -5,18 +5,14 @@ use Rattle.std.proofs.lemmas.List.{append-nil}
 use Rattle.dnw_base.specs.DnsClasses.{class_code}
 use Rattle.dnw_base.specs.Names.{AreLabels}
 use Rattle.dnw_base.specs.RecordTypes.{type_code}
-use Rattle.dnw_data.specs.Table.{fields_of}
-use Rattle.dnw_record.specs.DataCopies.{Copies, data_start, record_kinds}
 use Rattle.dnw_record.specs.Records.{RecordValue}
 use Rattle.dnw_message_read.specs.Messages.{QueryValue}
 use Rattle.dnw_message_writer.specs.Copying.{AreASet, AreOfOneSet, CopiesSets, CopyFits, copied_past, EndsBefore, FailsSets, FailsToAddCopy, FailsToAddQuery, StopsAmong, StopsInSet, after_set, at_once, copied_form, held_in, is_held, no_room, none_left, one_set, query_form, sets_of}
 use Rattle.dnw_message_writer.specs.Inside.CopiedSets.{AddsFirstSet}
 use Rattle.dnw_message_writer.specs.Inside.Taken.{IsCopiedIn}
 use Rattle.dnw_message_writer.specs.Inside.Turns.{KeptCount}
-use Rattle.dnw_message_writer.specs.Data.{AreOfData}
 use Rattle.dnw_message_writer.specs.Hints.{slot_of}
 use Rattle.dnw_message_writer.specs.Items.{ItemForm, question_form, question_past, record_form, record_past}
-use Rattle.dnw_message_writer.specs.Listed.{data_form, data_past}
 use Rattle.dnw_message_writer.specs.Sets.{AddsSet}
 use Rattle.dnw_message_writer.specs.States.{AddsItem, FailsToAdd}
 use Rattle.dnw_message_writer.specs.declared.copying.CopyError.{CopyError}

@@ -1,9 +1,9 @@
 -- Data that are taken apart, field by field.
-use Rattle.std.proofs.Common.{◌≡◌, ◌≢◌, ℕ, ◌+◌, ◌-◌, ◌==◌, ◌<◌, ◌≤◌, Bool, true, false, None, Some, List, [], ◌∷◌, ◌++◌, length, take, drop, inl, inr, refl, sym, ap, ◌∙◌, subst, append_assoc, arith}
+use Rattle.std.proofs.Common.{◌≡◌, ◌≢◌, ℕ, ◌+◌, ◌-◌, ◌==◌, ◌<◌, ◌≤◌, Bool, true, false, None, List, [], ◌∷◌, ◌++◌, length, take, drop, inl, inr, refl, sym, ap, ◌∙◌, subst, length-drop, arith}
 use Rattle.std.specs.Prelude.{◌&&◌, ◌||◌, nat_le, not, slice_index}
 use Rattle.std.specs.List.{flat_map}
 use Rattle.std.proofs.lemmas.Bool.{cases_Bool, eqb-true, leb-true}
-use Rattle.std.proofs.lemmas.List.{drop_all, drop_at, length-append, length-take-le, take-append-drop, take_at}
+use Rattle.std.proofs.lemmas.List.{drop-drop, drop_all, drop_at, length-append, length-take-le, take-append-drop, take_at}
 use Rattle.std.proofs.lemmas.Option.{none-some}
 use Rattle.dnw_base.specs.Decoder.{Decoder}
 use Rattle.dnw_base.specs.declared.error.DecodeError.{DecodeError}
@@ -13,7 +13,7 @@ use Rattle.dnw_data.specs.declared.kind.Kind.TheVariants as kinds
 use Rattle.dnw_data.specs.declared.kind.NameForm.{NameForm}
 use Rattle.dnw_data.specs.declared.kind.NameForm.TheVariants.{Compressible, Lowered, Plain}
 use Rattle.dnw_data.specs.Fields.{FailsField, TakesField, own_at}
-use Rattle.dnw_data.specs.Table.{Row, a6, a6_fields, fields_elsewhere, fields_in, fields_in_internet, fields_of, fields_of_some, is_internet_type, is_like_internet, may_lack_data, table}
+use Rattle.dnw_data.specs.Table.{Row, a6, a6_fields, base64, fields_elsewhere, fields_in, fields_in_internet, fields_of, fields_of_some, is_internet_type, is_like_internet, lowered_name, may_lack_data, table}
 use Rattle.dnw_data.specs.Values.{FieldValue, own_fault, own_size}
 use Rattle.dnw_data.proofs.Rows.{fields_hold}
 use Rattle.dnw_name_read.proofs.Takes.{TakesName_unique}
@@ -345,3 +345,51 @@ four_alone class code octets internet is some = ap (λ n. fields_of n code octet
 
 pub six_alone : (class code : ℕ) (octets : List ℕ) → class ≡ 1 → code ≡ 28 → octets ≢ [] → fields_of class code octets ≡ kinds.Ipv6 ∷ []
 six_alone class code octets internet is some = ap (λ n. fields_of n code octets) internet ∙ ap (λ n. fields_of 1 n octets) is ∙ some_data 1 28 octets some
+
+-- ---- signatures
+
+-- a field of a fixed size at an offset, before others
+fixed_at : (kind : Kind) (n : ℕ) (others : List Kind) (octets : List ℕ) (p : ℕ) → IsNoName kind → (n ≡ own_size kind (drop p octets)) × IsPlain kind
+    → p + n ≤ length octets → IsData others (drop (p + n) octets) → IsData (kind ∷ others) (drop p octets)
+fixed_at kind n others octets p other plain enough more =
+    let left = drop p octets in
+    let inside : n ≤ length left = omega (arith, enough, length-drop p octets) in
+    let rest : drop (length (take n left)) left ≡ drop (p + n) octets = ap (λ k. drop k left) (length-take-le n left inside) ∙ drop-drop n p octets in
+    data_first kind others left (take n left) (plain_field kind left n other plain inside) (rw rest more)
+
+abbrev signature_fields : List Kind
+signature_fields = kinds.TypeCode ∷ kinds.U8 ∷ kinds.U8 ∷ kinds.U32 ∷ kinds.Time ∷ kinds.Time ∷ kinds.U16 ∷ lowered_name ∷ base64 ∷ []
+
+signature_data : (octets : List ℕ) (ls : List (List ℕ)) → 18 ≤ length octets → AreLabels ls
+    → drop 18 octets ≡ wire ls ++ drop (length (wire ls)) (drop 18 octets) → IsData signature_fields octets
+signature_data octets ls long are split =
+    let rest = drop (length (wire ls)) (drop 18 octets) in
+    let own = take (length rest) rest in
+    let whole : length own ≡ length rest = length-take-le (length rest) rest (omega arith) in
+    let last : IsData (base64 ∷ []) rest =
+    data_first base64 [] rest own (plain_field base64 rest (length rest) tt (refl, λ o. refl) (omega arith)) (data_empty _ (drop_all (length own) rest (omega (arith, whole)))) in
+    let signer : IsData (lowered_name ∷ base64 ∷ []) (drop 18 octets) =
+    data_first lowered_name (base64 ∷ []) (drop 18 octets) (wire ls) (name_field Lowered ls (drop 18 octets) (wire ls) are refl split) last in
+    fixed_at kinds.TypeCode 2 _ octets 0 tt (refl, λ o. refl) (omega (arith, long)) (
+    fixed_at kinds.U8 1 _ octets 2 tt (refl, λ o. refl) (omega (arith, long)) (
+    fixed_at kinds.U8 1 _ octets 3 tt (refl, λ o. refl) (omega (arith, long)) (
+    fixed_at kinds.U32 4 _ octets 4 tt (refl, λ o. refl) (omega (arith, long)) (
+    fixed_at kinds.Time 4 _ octets 8 tt (refl, λ o. refl) (omega (arith, long)) (
+    fixed_at kinds.Time 4 _ octets 12 tt (refl, λ o. refl) (omega (arith, long)) (
+    fixed_at kinds.U16 2 _ octets 16 tt (refl, λ o. refl) (omega (arith, long)) signer
+    )
+    )
+    )
+    )
+    )
+    )
+
+pub signature_alone : (class : ℕ) (octets : List ℕ) (ls : List (List ℕ)) (x : Piece) → 18 ≤ length octets → AreLabels ls
+    → drop 18 octets ≡ wire ls ++ drop (length (wire ls)) (drop 18 octets) → flat_map whole_octets (x ∷ []) ≡ octets
+    → ((at : ℕ) → names_among at (x ∷ []) ≡ []) → AreOfData (fields_of class 46 octets) octets (x ∷ [])
+unfolding is_internet_type
+signature_alone class octets ls x long are split whole names =
+    let some : octets ≢ [] = λ is. absurd (omega (arith, long, ap length is)) in
+    let fields : fields_of class 46 octets ≡ signature_fields = some_data class 46 octets some ∙ in_all_classes class 46 octets refl in
+    let there : IsData (fields_of class 46 octets) octets = subst (λ ks. IsData ks octets) (sym fields) (signature_data octets ls long are split) in
+    of_all (fields_of class 46 octets) octets (x ∷ []) (late_types class 46 octets (omega arith)) there whole names

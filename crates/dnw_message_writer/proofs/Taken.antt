@@ -1,5 +1,5 @@
 -- Data of records of other messages, taken field by field.
-use Rattle.std.proofs.Common.{◌≡◌, ℕ, ◌+◌, ◌≤◌, true, false, List, [], ◌∷◌, ◌++◌, length, take, drop, refl, sym, ap, ◌∙◌, subst, append_assoc, arith}
+use Rattle.std.proofs.Common.{◌≡◌, ℕ, ◌+◌, ◌≤◌, true, false, List, ◌∷◌, ◌++◌, length, take, drop, refl, sym, ap, ◌∙◌, subst, append_assoc, arith}
 use Rattle.std.specs.List.{flat_map}
 use Rattle.std.proofs.lemmas.List.{length-append, length-take-le, take-append-drop}
 use Rattle.dnw_base.specs.Decoder.{Decoder, advanced}
@@ -11,7 +11,7 @@ use Rattle.dnw_data.specs.declared.kind.Kind.{Kind}
 use Rattle.dnw_data.specs.declared.kind.NameForm.TheVariants.{Compressible}
 use Rattle.dnw_data.specs.Table.{fields_of}
 use Rattle.dnw_record.specs.DataCopies.{Copies, TakesPiece, TakesPieces, data_start, record_kinds}
-use Rattle.dnw_record.specs.DataPieces.{DataPiece, name_piece, octets_of, piece_octets}
+use Rattle.dnw_record.specs.DataPieces.{name_piece, octets_of, piece_octets}
 use Rattle.dnw_record.specs.Records.{RecordValue}
 use Rattle.dnw_record.proofs.Alike.{copied_kinds}
 use Rattle.dnw_record.proofs.Pieces.{are_pieces, behind, piece_again, pieces_again}

@@ -40,6 +40,12 @@ const PTR: u16 = 12;
 
 const AAAA: u16 = 28;
 
+/// The code of RRSIG: it is by each set of records in a signed zone.
+const RRSIG: u16 = 46;
+
+/// The octets of the data of RRSIG before the name of the signer (RFC 4034, section 3.1).
+const BEFORE_SIGNER: usize = 18;
+
 /// The pieces of the data of a record.
 ///
 /// A contract sees them as their list.
@@ -89,17 +95,11 @@ impl<'a> Pieces<'a> {
 /// Returns the pieces of data of a class and a type, by their codes: the names that may be compressed, which are those of the types of
 /// RFC 1035 (RFC 3597, section 4), and the octets between them. Returns `None` if the octets are not data of the class and type, with
 /// every name in its wire form. Nothing is allocated.
-// Mostly data are one piece, for which the table need not be asked.
-#[inline(always)]
 pub fn pieces_of(class: u16, record_type: u16, octets: &[u8]) -> Option<Pieces<'_>>
     ensures some { IfSome result (AreOfData (fields_of class record_type octets.now) octets.now) }
     ensures none { IfNone result (IsData (fields_of class record_type octets.now) octets.now → ⊥) }
 {
     let mut pieces = Pieces::new();
-    if let Some(piece) = only_piece_of(class, record_type, octets) {
-        pieces.push(piece);
-        return Some(pieces);
-    }
     let class = DNSClass::from(class);
     let kinds = fields_of(class, RecordType::from(record_type), octets);
     if put_data(record_type, kinds, octets, &mut pieces) {
@@ -110,9 +110,10 @@ pub fn pieces_of(class: u16, record_type: u16, octets: &[u8]) -> Option<Pieces<'
 }
 
 /// Returns the piece that data of a class and a type are, by their codes: a name that may be compressed, or octets without one. Mostly
-/// data are one. Returns `None` if they are more, or if the octets are no data of the class and type; and it may for others.
+/// data are one, for which the table need not be asked. Returns `None` if they are more, or if the octets are no data of the class and
+/// type; and it may for others, so then `pieces_of` decides. Nothing is allocated.
 #[inline(always)]
-pub(crate) fn only_piece_of(class: u16, record_type: u16, octets: &[u8]) -> Option<Piece<'_>>
+pub fn only_piece_of(class: u16, record_type: u16, octets: &[u8]) -> Option<Piece<'_>>
     ensures { IfSome result (λ piece. AreOfData (fields_of class record_type octets.now) octets.now (piece ∷ [])) }
 {
     if octets.is_empty() {
@@ -121,9 +122,25 @@ pub(crate) fn only_piece_of(class: u16, record_type: u16, octets: &[u8]) -> Opti
     if let Some(kind) = usual_kind(class, record_type) {
         return only_field(kind, octets);
     }
+    if record_type == RRSIG {
+        return signature(octets);
+    }
     let class = DNSClass::from(class);
     let kinds = fields_of(class, RecordType::from(record_type), octets);
     only_piece(record_type, kinds, octets)
+}
+
+/// Returns the piece that data of RRSIG are, in any class (RFC 4034, section 3.1): octets of a fixed size, the name of the signer, which
+/// is not compressed, and the signature.
+#[inline(always)]
+fn signature(octets: &[u8]) -> Option<Piece<'_>>
+    ensures { IfSome result (λ piece. (class : ℕ) → AreOfData (fields_of class 46 octets.now) octets.now (piece ∷ [])) }
+{
+    if octets.len() < BEFORE_SIGNER {
+        return None;
+    }
+    let _signer = whole_name(&octets[BEFORE_SIGNER..])?;
+    Some(Piece::Octets(octets))
 }
 
 /// Returns the kind of the only field that data of a class and a type have, if they are an address or a name: mostly they are.

@@ -5,7 +5,7 @@ ghost use Rattle.dnw_message_writer.specs.Listed.{FailsListed, FailsToAddData, H
 ghost use Rattle.dnw_message_writer.specs.Sets.{AddsSet};
 ghost use Rattle.dnw_message_writer.specs.States.{AddsItem};
 
-use crate::data::pieces_of;
+use crate::data::{only_piece_of, pieces_of};
 use crate::names::put_at;
 use crate::section::{Section, WriteError};
 use crate::set::two_at;
@@ -42,7 +42,31 @@ impl From<WriteError> for DataError {
 impl WriterState {
     /// Adds a record whose data are these octets, with every name in its wire form, or nothing of it. The names that may be compressed
     /// are (RFC 3597, section 4).
+    #[inline(always)]
     pub fn record_data(
+        &mut self,
+        message: &mut [u8],
+        section: Section,
+        owner: WireLabels<'_>,
+        record_type: u16,
+        class: u16,
+        ttl: u32,
+        octets: &[u8],
+    ) -> Result<(), DataError>
+        ensures ok { OnOk result (AddsItem section (data_form owner.entry record_type class ttl octets.now) self.old message.old self.new message.new) }
+        ensures err { IfErr result (FailsToAddData section owner.entry record_type class ttl octets.now self.old message.old) }
+        ensures same { OnErr result ((self.new ≡ self.old) × (take self.old.end message.new ≡ take self.old.end message.old)) }
+    {
+        let Some(piece) = only_piece_of(class, record_type, octets) else {
+            return self.record_pieces(message, section, owner, record_type, class, ttl, octets);
+        };
+        self.record(message, section, owner, record_type, class, ttl, &[piece])?;
+        Ok(())
+    }
+
+    /// Adds a record, as `record_data` does, whose data may be several pieces.
+    #[inline(never)]
+    fn record_pieces(
         &mut self,
         message: &mut [u8],
         section: Section,

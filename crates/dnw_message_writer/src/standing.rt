@@ -13,6 +13,9 @@ pub const FIRST_ITEM: usize = 12;
 /// So many octets, or fewer, are compared one by one.
 const FEW: usize = 8;
 
+/// So many octets are compared at a time.
+const EIGHT: usize = 8;
+
 /// How far a reading has come.
 #[derive(Clone, Copy)]
 pub struct Spot {
@@ -143,8 +146,7 @@ fn is_whole_before(message: &[u8], spot: Spot, octets: &[u8]) -> bool
         return false;
     }
     // Mostly another last octet shows that they are others.
-    octets[size - 1] == message[spot.position + size - 1]
-        && &message[spot.position..spot.position + size] == octets
+    octets[size - 1] == message[spot.position + size - 1] && are_at(message, spot.position, octets)
 }
 
 /// Returns `true` only if the next octets are these, up to the limit.
@@ -174,6 +176,40 @@ fn is_at(message: &[u8], at: usize, octets: &[u8]) -> bool
         index += 1;
     }
     true
+}
+
+/// Returns `true` only if these octets stand at an offset. They are compared from the last to the first, eight at a time.
+#[inline(always)]
+fn are_at(message: &[u8], at: usize, octets: &[u8]) -> bool
+    requires { at + length octets.now ≤ length message.now }
+    ensures { IsTrue result → slice_range message.now at (at + length octets.now) ≡ octets.now }
+{
+    let mut left = octets.len();
+    'eights: while left >= EIGHT {
+        left -= EIGHT;
+        if eight_at(message, at + left) != eight_at(octets, left) {
+            return false;
+        }
+    }
+    if left > 0 && octets.len() >= EIGHT {
+        return eight_at(message, at) == eight_at(octets, 0);
+    }
+    'octets: while left > 0 {
+        left -= 1;
+        if message[at + left] != octets[left] {
+            return false;
+        }
+    }
+    true
+}
+
+/// Returns eight octets.
+#[inline(always)]
+fn eight_at(octets: &[u8], at: usize) -> [u8; EIGHT]
+    requires { at + 8 ≤ length octets.now }
+    ensures { result ≡ slice_range octets.now at (at + 8) }
+{
+    *octets[at..at + EIGHT].first_chunk::<EIGHT>().unwrap()
 }
 
 /// Returns `true` if a segment begins with these octets, and they are settled: a wire form that stands in one piece.

@@ -9,7 +9,7 @@ ghost use Rattle.dnw_message_writer.specs.declared.section.Section.TheVariants a
 ghost use Rattle.dnw_message_writer.specs.declared.section.WriteError.TheVariants.{NoRoom};
 
 use crate::hints::SLOTS;
-use crate::items::{place_at, record_fields};
+use crate::items::place_at;
 use crate::names::put_at;
 use crate::pieces::Piece;
 use crate::section::{Section, WriteError};
@@ -127,7 +127,6 @@ impl WriterState {
     {
         let is_opt = record_type == RecordType::OPT.code();
         let limit = self.limit_for(message, section, is_opt)?;
-        let fields = record_fields(record_type, class, ttl);
         match add_record(
             message,
             self.end,
@@ -135,7 +134,9 @@ impl WriterState {
             self.owner,
             &mut self.hints,
             owner,
-            &fields,
+            record_type,
+            class,
+            ttl,
             pieces,
         ) {
             Some(end) => {

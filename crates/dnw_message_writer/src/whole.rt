@@ -4,10 +4,10 @@ ghost use Rattle.dnw_base.specs.Limits.{max_message};
 ghost use Rattle.dnw_message_writer.specs.CompressedNames.{PutsForm};
 ghost use Rattle.dnw_message_writer.specs.Hints.{slot_of};
 ghost use Rattle.dnw_message_writer.specs.Inside.Fitting.{FitWhole};
-ghost use Rattle.dnw_message_writer.specs.Items.{IsQuestion, IsRecord, QuestionGoesPast, RecordGoesPast};
+ghost use Rattle.dnw_message_writer.specs.Items.{IsQuestion, IsRecord, QuestionGoesPast, RecordGoesPast, fields_of_record};
 
 use crate::hints::SLOTS;
-use crate::items::{put_question, put_record};
+use crate::items::{put_question, put_record, record_fields};
 use crate::pieces::Piece;
 use dnw_name_form::wire_labels::WireLabels;
 
@@ -41,7 +41,7 @@ pub(crate) fn add_question(
     end
 }
 
-/// Writes a record as `put_record` does. If there is no room, the hints are unchanged.
+/// Writes a record as `put_record` does, with a type, a class and a time to live. If there is no room, the hints are unchanged.
 // Most records fit even with their names whole. For these no copy of the hints is kept.
 #[inline(always)]
 pub(crate) fn add_record(
@@ -51,22 +51,36 @@ pub(crate) fn add_record(
     near: u16,
     hints: &mut [u16; SLOTS],
     owner: WireLabels<'_>,
-    fields: &[u8; 10],
+    record_type: u16,
+    class: u16,
+    ttl: u32,
     pieces: &[Piece<'_>],
 ) -> Option<usize>
     requires at { at ≤ limit }
     requires limit { limit ≤ length message.old }
     requires small { limit ≤ max_message }
-    ensures some { IfSome result (λ end. PutsForm (λ octets. IsRecord slot_of (take at message.old) near hints.old owner.entry fields.now pieces.now octets hints.new) message.old at message.new end × (end ≤ limit)) }
-    ensures none { IfNone result (RecordGoesPast slot_of limit (take at message.old) near hints.old owner.entry fields.now pieces.now × (hints.new ≡ hints.old)) }
+    ensures some { IfSome result (λ end. PutsForm (λ octets. IsRecord slot_of (take at message.old) near hints.old owner.entry (fields_of_record record_type class ttl) pieces.now octets hints.new) message.old at message.new end × (end ≤ limit)) }
+    ensures none { IfNone result (RecordGoesPast slot_of limit (take at message.old) near hints.old owner.entry (fields_of_record record_type class ttl) pieces.now × (hints.new ≡ hints.old)) }
     ensures before { take at message.new ≡ take at message.old }
     ensures size { length message.new ≡ length message.old }
 {
     let whole = owner.as_wire().len() + 10;
     if whole <= limit - at && fit_whole(limit - at - whole, pieces) {
-        return put_record(message, at, limit, near, hints, owner, fields, pieces);
+        let fields = record_fields(record_type, class, ttl);
+        return put_record(message, at, limit, near, hints, owner, &fields, pieces);
     }
-    add_close_record(message, at, limit, near, hints, owner, fields, pieces)
+    add_close_record(
+        message,
+        at,
+        limit,
+        near,
+        hints,
+        owner,
+        record_type,
+        class,
+        ttl,
+        pieces,
+    )
 }
 
 /// Writes a record that may not fit, as `add_record` does.
@@ -78,19 +92,22 @@ fn add_close_record(
     near: u16,
     hints: &mut [u16; SLOTS],
     owner: WireLabels<'_>,
-    fields: &[u8; 10],
+    record_type: u16,
+    class: u16,
+    ttl: u32,
     pieces: &[Piece<'_>],
 ) -> Option<usize>
     requires at { at ≤ limit }
     requires limit { limit ≤ length message.old }
     requires small { limit ≤ max_message }
-    ensures some { IfSome result (λ end. PutsForm (λ octets. IsRecord slot_of (take at message.old) near hints.old owner.entry fields.now pieces.now octets hints.new) message.old at message.new end × (end ≤ limit)) }
-    ensures none { IfNone result (RecordGoesPast slot_of limit (take at message.old) near hints.old owner.entry fields.now pieces.now × (hints.new ≡ hints.old)) }
+    ensures some { IfSome result (λ end. PutsForm (λ octets. IsRecord slot_of (take at message.old) near hints.old owner.entry (fields_of_record record_type class ttl) pieces.now octets hints.new) message.old at message.new end × (end ≤ limit)) }
+    ensures none { IfNone result (RecordGoesPast slot_of limit (take at message.old) near hints.old owner.entry (fields_of_record record_type class ttl) pieces.now × (hints.new ≡ hints.old)) }
     ensures before { take at message.new ≡ take at message.old }
     ensures size { length message.new ≡ length message.old }
 {
     let saved = *hints;
-    let end = put_record(message, at, limit, near, hints, owner, fields, pieces);
+    let fields = record_fields(record_type, class, ttl);
+    let end = put_record(message, at, limit, near, hints, owner, &fields, pieces);
     if end.is_none() {
         *hints = saved;
     }

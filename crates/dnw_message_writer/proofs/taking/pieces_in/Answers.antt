@@ -1,4 +1,4 @@
-use Rattle.std.proofs.Common.{◌≡◌, ◌+◌, ◌≤◌, ◌++◌, drop, length, sym, ap, ◌∙◌, subst, arith}
+use Rattle.std.proofs.Common.{◌≡◌, ◌++◌, drop, length, sym, ap, ◌∙◌, subst, arith}
 use Rattle.dnw_base.specs.DnsClasses.{class_code}
 use Rattle.dnw_base.specs.RecordTypes.{type_code}
 use Rattle.dnw_record.specs.RecordFields.{up_to_end}
