@@ -15,11 +15,10 @@ use Rattle.dnw_name.specs.Decodable.{StopsSomehow}
 use Rattle.dnw_record.specs.Records.{FailsRecord, RecordValue, TakesRecord, data_octets}
 use Rattle.dnw_message_read.specs.Headers.{header_size}
 use Rattle.dnw_message_writer.specs.Hints.{slot_of}
-use Rattle.dnw_message_writer.specs.Items.{question_form, question_past, record_form, record_past}
+use Rattle.dnw_message_writer.specs.Items.{question_form, question_past}
 use Rattle.dnw_message_writer.specs.Sections.{rank}
 use Rattle.dnw_message_writer.specs.Sets.{cut_off}
 use Rattle.dnw_message_writer.specs.States.{AddsItem, BeginsMessage, released}
-use Rattle.dnw_message_writer.specs.declared.pieces.Piece.{Piece}
 use Rattle.dnw_message_writer.specs.declared.section.Section.{Section}
 use Rattle.dnw_message_writer.specs.declared.section.Section.TheVariants as Sections
 use Rattle.dnw_message_writer.specs.declared.section.WriteError.TheVariants.{NoRoom}
@@ -28,7 +27,7 @@ use Rattle.dnw_c_base.specs.Offsets.{at_offset}
 use Rattle.dnw_c_base.specs.declared.failure.Failure.{Failure}
 use Rattle.dnw_c_base.specs.declared.failure.Failure.TheVariants as why
 use Rattle.dnw_c_messages.specs.Packed.{is_cut}
-use Rattle.dnw_c_messages.specs.WriterCalls.{FailsToAddItem, HasPiecesOf, IsWholeData}
+use Rattle.dnw_c_messages.specs.WriterCalls.{AddsOwned, FailsToAddItem, FailsToAddOwned}
 use Rattle.dnw_c_messages.specs.declared.packed.PackedMessage.{PackedMessage}
 use Rattle.dnw_c_messages.specs.declared.writing.LeftOut.{LeftOut}
 
@@ -128,16 +127,11 @@ IsBadList list =
 
 -- A record of a list is added to a section.
 abbrev pub AddsListed : Section → RecordValue → WriterState → List ℕ → WriterState → List ℕ → Type 0
-AddsListed s x before old after new =
-    (pieces : List Piece) × HasPiecesOf (class_code x.class) (type_code x.record_type) (data_octets x) pieces
-    × AddsItem s (record_form slot_of x.owner (type_code x.record_type) (class_code x.class) x.ttl pieces) before old after new
+AddsListed s x = AddsOwned s x.owner (type_code x.record_type) (class_code x.class) x.ttl (data_octets x)
 
--- It is not: its data are not those of its class and type, or no item may follow, or it goes past the limit.
+-- It is not, for this reason.
 abbrev pub FailsToAddListed : Section → RecordValue → WriterState → List ℕ → Failure → Type 0
-FailsToAddListed s x before old failure =
-    ((IsWholeData (class_code x.class) (type_code x.record_type) (data_octets x) → ⊥) × (failure ≡ why.BadData))
-    ⊎ ((pieces : List Piece) × HasPiecesOf (class_code x.class) (type_code x.record_type) (data_octets x) pieces
-    × FailsToAddItem s (record_past slot_of x.owner (type_code x.record_type) (class_code x.class) x.ttl pieces) before old failure)
+FailsToAddListed s x = FailsToAddOwned s x.owner (type_code x.record_type) (class_code x.class) x.ttl (data_octets x)
 
 -- the octets of an item up to its class, by which the records of a set are known
 abbrev pub set_key : Decoder → RecordValue → List ℕ

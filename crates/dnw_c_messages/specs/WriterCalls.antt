@@ -80,6 +80,19 @@ HasPiecesOf class record_type octets pieces = AreOfData (fields_of class record_
 abbrev pub IsWholeData : ℕ → ℕ → List ℕ → Type 0
 IsWholeData class record_type octets = IsData (fields_of class record_type octets) octets
 
+-- A record with this owner and these data is added to a section.
+abbrev pub AddsOwned : Section → List (List ℕ) → ℕ → ℕ → ℕ → List ℕ → WriterState → List ℕ → WriterState → List ℕ → Type 0
+AddsOwned s owner record_type class ttl octets before old after new =
+    (pieces : List Piece) × HasPiecesOf class record_type octets pieces
+    × AddsItem s (record_form slot_of owner record_type class ttl pieces) before old after new
+
+-- It is not: the data are none of its class and type, or no item may follow, or it goes past the limit.
+abbrev pub FailsToAddOwned : Section → List (List ℕ) → ℕ → ℕ → ℕ → List ℕ → WriterState → List ℕ → Failure → Type 0
+FailsToAddOwned s owner record_type class ttl octets before old failure =
+    ((IsWholeData class record_type octets → ⊥) × (failure ≡ why.BadData))
+    ⊎ ((pieces : List Piece) × HasPiecesOf class record_type octets pieces
+    × FailsToAddItem s (record_past slot_of owner record_type class ttl pieces) before old failure)
+
 -- What is given for a record is one: its owner's wire form, and data of its class and type.
 pub record IsGiven (form : List ℕ) (record_type class : ℕ) (octets : List ℕ) (owner : List (List ℕ)) (pieces : List Piece) : Type 0 where
   pub owned : IsFormOf form owner

@@ -2,12 +2,12 @@
 ghost use Rattle.std.specs.Prelude.{◌≡◌, ◌+◌, ◌-◌, min, IfOk, IfErr, IfSome, IfNone};
 ghost use Rattle.dnw_message_writer.specs.States.{released};
 ghost use Rattle.dnw_c_base.specs.Results.{ReturnsNumber};
-ghost use Rattle.dnw_c_messages.specs.WriterCalls.{AddsGiven, AddsLastRecord, AddsOr, AddsQuestionOf, AddsRecord, BeginsOr, FailsToAddGiven, FailsToAddLast, FailsToAddQuestion, FailsToAddRecord, IsGiven, IsNoNumber, IsNotGiven, IsSectionNumber, of_write};
+ghost use Rattle.dnw_c_messages.specs.WriterCalls.{AddsGiven, AddsLastRecord, AddsOr, AddsOwned, AddsQuestionOf, AddsRecord, BeginsOr, FailsToAddGiven, FailsToAddLast, FailsToAddOwned, FailsToAddQuestion, FailsToAddRecord, IsGiven, IsNoNumber, IsNotGiven, IsSectionNumber, of_write};
 
 use crate::owners::labels_of;
 use dnw_c_base::failure::Failure;
 use dnw_c_base::results::report;
-use dnw_message_writer::data::{Pieces, pieces_of};
+use dnw_message_writer::data::{Pieces, only_piece_of, pieces_of};
 use dnw_message_writer::section::{Section, WriteError};
 use dnw_message_writer::state::WriterState;
 use dnw_name_form::wire_labels::WireLabels;
@@ -196,7 +196,74 @@ fn add_given(
     ensures { AddsOr (AddsGiven section form.now record_type class ttl octets.now)
         (FailsToAddGiven section form.now record_type class ttl octets.now) writer.old message.old writer.new message.new result }
 {
-    let (owner, pieces) = given(form, record_type, class, octets)?;
+    let owner = labels_of(form)?;
+    match add_owned(
+        message,
+        section,
+        owner,
+        record_type,
+        class,
+        ttl,
+        octets,
+        writer,
+    ) {
+        Ok(()) => Ok(()),
+        Err(failure) => Err(failure),
+    }
+}
+
+/// Adds a record with this owner and these data to a section. Mostly the data are one piece.
+#[inline(always)]
+pub(crate) fn add_owned(
+    message: &mut [u8],
+    section: Section,
+    owner: WireLabels<'_>,
+    record_type: u16,
+    class: u16,
+    ttl: u32,
+    octets: &[u8],
+    writer: &mut WriterState,
+) -> Result<(), Failure>
+    ensures { AddsOr (AddsOwned section owner.entry record_type class ttl octets.now)
+        (FailsToAddOwned section owner.entry record_type class ttl octets.now) writer.old message.old writer.new message.new result }
+{
+    let Some(piece) = only_piece_of(class, record_type, octets) else {
+        return add_pieces(
+            message,
+            section,
+            owner,
+            record_type,
+            class,
+            ttl,
+            octets,
+            writer,
+        );
+    };
+    let pieces = [piece];
+    match writer.record(message, section, owner, record_type, class, ttl, &pieces) {
+        Ok(()) => Ok(()),
+        Err(error) => Err(of_write(&error)),
+    }
+}
+
+/// Adds a record, as `add_owned` does, whose data may be several pieces.
+#[inline(never)]
+fn add_pieces(
+    message: &mut [u8],
+    section: Section,
+    owner: WireLabels<'_>,
+    record_type: u16,
+    class: u16,
+    ttl: u32,
+    octets: &[u8],
+    writer: &mut WriterState,
+) -> Result<(), Failure>
+    ensures { AddsOr (AddsOwned section owner.entry record_type class ttl octets.now)
+        (FailsToAddOwned section owner.entry record_type class ttl octets.now) writer.old message.old writer.new message.new result }
+{
+    let Some(pieces) = pieces_of(class, record_type, octets) else {
+        return Err(Failure::BadData);
+    };
     let pieces = pieces.as_slice();
     match writer.record(message, section, owner, record_type, class, ttl, pieces) {
         Ok(()) => Ok(()),

@@ -21,12 +21,11 @@ use crate::listed::{
     whole_item,
 };
 use crate::packed::{PackedMessage, is_cut};
-use crate::writer::{begin, of_write};
+use crate::writer::{add_owned, begin, of_write};
 use dnw_base::decoder::BinDecoder;
 use dnw_base::limits::MAX_NAME;
 use dnw_c_base::failure::Failure;
 use dnw_c_base::results::report;
-use dnw_message_writer::data::pieces_of;
 use dnw_message_writer::hints::SLOTS;
 use dnw_message_writer::section::Section;
 use dnw_message_writer::standing::FIRST_ITEM;
@@ -151,6 +150,7 @@ fn write_next(
 }
 
 /// Writes a question.
+#[inline(never)]
 fn write_question(
     decoder: &mut BinDecoder<'_>,
     message: &mut [u8],
@@ -175,6 +175,7 @@ fn write_question(
 }
 
 /// Writes one of the last items.
+#[inline(never)]
 fn write_last(
     decoder: &mut BinDecoder<'_>,
     message: &mut [u8],
@@ -263,6 +264,7 @@ fn add_records(
 }
 
 /// Adds a record of a list to a section.
+#[inline(always)]
 fn add_listed(
     section: Section,
     item: &RecordRef<'_>,
@@ -277,21 +279,18 @@ fn add_listed(
     let owner = item.owner().wire_labels(&mut room);
     let record_type = u16::from(item.record_type());
     let class = u16::from(item.class());
-    let Some(pieces) = pieces_of(class, record_type, item.rdata()) else {
-        return Err(Failure::BadData);
-    };
-    let pieces = pieces.as_slice();
-    match writer.record(
+    match add_owned(
         message,
         section,
         owner,
         record_type,
         class,
         item.ttl(),
-        pieces,
+        item.rdata(),
+        writer,
     ) {
         Ok(()) => Ok(()),
-        Err(error) => Err(of_write(&error)),
+        Err(failure) => Err(failure),
     }
 }
 
