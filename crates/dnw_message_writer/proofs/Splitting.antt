@@ -3,7 +3,7 @@ use Rattle.std.proofs.Common.{◌≡◌, ◌≢◌, ℕ, ◌+◌, ◌-◌, ◌==
 use Rattle.std.specs.Prelude.{◌&&◌, ◌||◌, nat_le, not, slice_index}
 use Rattle.std.specs.List.{flat_map}
 use Rattle.std.proofs.lemmas.Bool.{cases_Bool, eqb-true, leb-true}
-use Rattle.std.proofs.lemmas.List.{drop-drop, drop_all, drop_at, length-append, length-take-le, take-append-drop, take_at}
+use Rattle.std.proofs.lemmas.List.{append-nil, drop-drop, drop_all, drop_at, length-append, length-take-le, take-append-drop, take_all, take_at}
 use Rattle.std.proofs.lemmas.Option.{none-some}
 use Rattle.dnw_base.specs.Decoder.{Decoder}
 use Rattle.dnw_base.specs.declared.error.DecodeError.{DecodeError}
@@ -22,7 +22,7 @@ use Rattle.dnw_record.specs.DataCopies.{alone}
 use Rattle.dnw_record.specs.Inside.Copying.{IsNoName}
 use Rattle.dnw_record.proofs.Pieces.{name_again}
 use Rattle.dnw_message_writer.specs.Data.{AreOfData, StartsNoName, are_to_compress, is_to_compress, names_among, names_to_compress, whole_octets}
-use Rattle.dnw_message_writer.specs.Inside.Splitting.{HasField, HasNoField, IsPlain, is_usual_name, last_compressed, most_pieces}
+use Rattle.dnw_message_writer.specs.Inside.Splitting.{HasField, HasNoField, HasSigner, IsPlain, is_usual_name, last_compressed, most_pieces}
 use Rattle.dnw_message_writer.specs.declared.pieces.Piece.{Piece}
 
 -- ---- the first field
@@ -384,12 +384,13 @@ signature_data octets ls long are split =
     )
     )
 
-pub signature_alone : (class : ℕ) (octets : List ℕ) (ls : List (List ℕ)) (x : Piece) → 18 ≤ length octets → AreLabels ls
-    → drop 18 octets ≡ wire ls ++ drop (length (wire ls)) (drop 18 octets) → flat_map whole_octets (x ∷ []) ≡ octets
-    → ((at : ℕ) → names_among at (x ∷ []) ≡ []) → AreOfData (fields_of class 46 octets) octets (x ∷ [])
+pub signature_alone : (class : ℕ) (octets : List ℕ) (x : Piece) → HasSigner octets → whole_octets x ≡ octets → ((at : ℕ) → names_among at (x ∷ []) ≡ [])
+    → AreOfData (fields_of class 46 octets) octets (x ∷ [])
 unfolding is_internet_type
-signature_alone class octets ls x long are split whole names =
+signature_alone class octets x has whole names =
+    let long = has.long in
     let some : octets ≢ [] = λ is. absurd (omega (arith, long, ap length is)) in
     let fields : fields_of class 46 octets ≡ signature_fields = some_data class 46 octets some ∙ in_all_classes class 46 octets refl in
-    let there : IsData (fields_of class 46 octets) octets = subst (λ ks. IsData ks octets) (sym fields) (signature_data octets ls long are split) in
-    of_all (fields_of class 46 octets) octets (x ∷ []) (late_types class 46 octets (omega arith)) there whole names
+    let all = take_all (length octets - 18) (drop 18 octets) (omega (arith, length-drop 18 octets)) in
+    let there : IsData (fields_of class 46 octets) octets = subst (λ ks. IsData ks octets) (sym fields) (signature_data octets has.signer long has.are (rw all at has.named)) in
+    of_all (fields_of class 46 octets) octets (x ∷ []) (late_types class 46 octets (omega arith)) there (append-nil (whole_octets x) ∙ whole) names

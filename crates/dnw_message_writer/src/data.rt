@@ -4,7 +4,7 @@ ghost use Rattle.dnw_base.specs.Names.{AreLabels, wire};
 ghost use Rattle.dnw_data.specs.Table.{fields_of};
 ghost use Rattle.dnw_data.specs.Values.{counted_size, own_size};
 ghost use Rattle.dnw_message_writer.specs.Data.{AreOfData, StartsNoName, are_to_compress, is_to_compress};
-ghost use Rattle.dnw_message_writer.specs.Inside.Splitting.{HasField, HasNoField, IsPlain, is_usual_name, last_compressed, most_pieces};
+ghost use Rattle.dnw_message_writer.specs.Inside.Splitting.{HasField, HasNoField, HasSigner, IsPlain, is_usual_name, last_compressed, most_pieces};
 ghost use Rattle.dnw_message_writer.specs.declared.pieces.Piece.{Piece};
 ghost use Rattle.dnw_record.specs.DataPieces.{IsData};
 ghost use Rattle.dnw_record.specs.Inside.Copying.{IsNoName};
@@ -130,17 +130,29 @@ pub fn only_piece_of(class: u16, record_type: u16, octets: &[u8]) -> Option<Piec
     only_piece(record_type, kinds, octets)
 }
 
-/// Returns the piece that data of RRSIG are, in any class (RFC 4034, section 3.1): octets of a fixed size, the name of the signer, which
-/// is not compressed, and the signature.
+/// Returns the piece that data of RRSIG are, in any class (RFC 4034, section 3.1): octets, of which no name is compressed.
 #[inline(always)]
 fn signature(octets: &[u8]) -> Option<Piece<'_>>
     ensures { IfSome result (λ piece. (class : ℕ) → AreOfData (fields_of class 46 octets.now) octets.now (piece ∷ [])) }
 {
-    if octets.len() < BEFORE_SIGNER {
-        return None;
+    if has_signer(octets) {
+        return Some(Piece::Octets(octets));
     }
-    let _signer = whole_name(&octets[BEFORE_SIGNER..])?;
-    Some(Piece::Octets(octets))
+    None
+}
+
+/// Returns `true` only if the name of a signer is where data of RRSIG have it. What follows is the signature, of any octets.
+#[inline(always)]
+fn has_signer(octets: &[u8]) -> bool
+    ensures { IsTrue result → HasSigner octets.now }
+{
+    if octets.len() < BEFORE_SIGNER {
+        return false;
+    }
+    match whole_name(&octets[BEFORE_SIGNER..]) {
+        Some(_) => true,
+        None => false,
+    }
 }
 
 /// Returns the kind of the only field that data of a class and a type have, if they are an address or a name: mostly they are.

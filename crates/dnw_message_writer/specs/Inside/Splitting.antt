@@ -1,5 +1,6 @@
 -- Data that are taken apart, field by field.
-use Rattle.std.specs.Prelude.{◌≡◌, ℕ, ◌+◌, ◌==◌, ◌||◌, Bool, None, if◌then◌else◌, List, [], ◌∷◌, ◌++◌, drop, length}
+use Rattle.std.specs.Prelude.{◌≡◌, ℕ, ◌+◌, ◌==◌, ◌||◌, Bool, None, if◌then◌else◌, List, [], ◌∷◌, ◌++◌, drop, length, slice_range, ◌≤◌}
+use Rattle.dnw_base.specs.Names.{AreLabels, wire}
 use Rattle.dnw_data.specs.declared.kind.Kind.{Kind}
 use Rattle.dnw_data.specs.Values.{own_fault}
 use Rattle.dnw_record.specs.DataPieces.{DataPiece, IsPieceOf, piece_octets}
@@ -30,3 +31,10 @@ is_usual_name code = code == 2 || (code == 5 || code == 12)
 abbrev pub most_pieces : List Kind → ℕ
 most_pieces [] = 1
 most_pieces (kind ∷ others) = if are_to_compress (kind ∷ others) then 1 + most_pieces others else 1
+
+-- After octets of a fixed size, a name begins: that of the signer, in data of RRSIG (RFC 4034, section 3.1).
+pub record HasSigner (octets : List ℕ) : Type 0 where
+  pub long : 18 ≤ length octets
+  pub signer : List (List ℕ)
+  pub are : AreLabels signer
+  pub named : slice_range octets 18 (length octets) ≡ wire signer ++ drop (length (wire signer)) (slice_range octets 18 (length octets))
