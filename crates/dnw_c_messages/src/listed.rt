@@ -25,7 +25,6 @@ pub(crate) struct Question<'l> {
 }
 
 /// Returns how many octets the last items of a list have in all, if their names are whole.
-#[inline(never)]
 pub(crate) fn held_for(items: &[u8]) -> Result<usize, Failure>
     ensures ok { IfOk result (HoldsBack items.now) }
     ensures err { IfErr result (λ failure. IsBadList items.now × (failure ≡ BadItem)) }

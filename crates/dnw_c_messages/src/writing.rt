@@ -150,7 +150,6 @@ fn write_next(
 }
 
 /// Writes a question.
-#[inline(never)]
 fn write_question(
     decoder: &mut BinDecoder<'_>,
     message: &mut [u8],
@@ -175,7 +174,6 @@ fn write_question(
 }
 
 /// Writes one of the last items.
-#[inline(never)]
 fn write_last(
     decoder: &mut BinDecoder<'_>,
     message: &mut [u8],
