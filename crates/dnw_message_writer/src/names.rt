@@ -24,6 +24,7 @@ pub(crate) struct Spelling {
 
 /// Writes a name at `at`, where the message ends so far, up to `limit` at most, and returns where it ends now. The longest suffix
 /// that the hints find is written as a pointer. If there is no room, it returns `None`, and the message is unchanged.
+#[inline(always)]
 pub(crate) fn put_name(
     message: &mut [u8],
     at: usize,
