@@ -15,7 +15,7 @@ use Rattle.dnw_c_base.specs.Failures.{of_decode}
 use Rattle.dnw_c_base.specs.declared.failure.Failure.{Failure}
 use Rattle.dnw_c_base.specs.declared.failure.Failure.TheVariants.{NoRoom, TooManyPointers, WrongDataLength}
 use Rattle.dnw_c_messages.specs.FieldCalls.{head_of}
-use Rattle.dnw_c_messages.specs.Listings.{Exceeds, IsOwnKind, Listing, Task, data_row, entries, entries_of, entry, entry_kind, entry_row, fault_row, field_row, fields, with_name, with_row, name_field, no_field, no_fields, octets_left, own_field}
+use Rattle.dnw_c_messages.specs.Listings.{Exceeds, IsOwnKind, Task, data_row, entries, entries_of, entry, entry_kind, entry_row, fault_row, field_row, fields, with_name, with_row, name_field, no_field, no_fields, octets_left, own_field}
 use Rattle.dnw_c_messages.specs.Inside.Sheets.{FillsTo, Fits, Goes, HaltsOn, RowsAdvance, Sheet, left_of, listing, sheet}
 use Rattle.dnw_c_messages.specs.declared.rows.Listed.{Listed}
 use Rattle.dnw_c_messages.specs.declared.rows.TableRow.{TableRow}

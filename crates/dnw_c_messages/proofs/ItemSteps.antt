@@ -17,7 +17,7 @@ use Rattle.dnw_message_read.specs.declared.error.Section.TheVariants.{Queries}
 use Rattle.dnw_c_base.specs.Failures.{of_decode}
 use Rattle.dnw_c_base.specs.declared.failure.Failure.{Failure}
 use Rattle.dnw_c_base.specs.declared.failure.Failure.TheVariants as why
-use Rattle.dnw_c_messages.specs.Listings.{Exceeds, Listing, Task, fields, items, no_items, question, question_row, record_row, resource, with_name}
+use Rattle.dnw_c_messages.specs.Listings.{Exceeds, Task, fields, items, no_items, question, question_row, record_row, resource, with_name}
 use Rattle.dnw_c_messages.specs.MessageCalls.{section_number}
 use Rattle.dnw_c_messages.specs.Inside.Sheets.{FillsTo, Fits, Goes, GoesByOne, HaltsAtOne, HaltsOn, Sheet, listing}
 use Rattle.dnw_c_messages.specs.declared.rows.TableRow.{TableRow}

@@ -6,7 +6,7 @@ use Rattle.dnw_base.specs.Decoder.{Decoder, advanced, next_bytes}
 use Rattle.dnw_record.specs.Records.{RecordValue, TakesRecord}
 use Rattle.dnw_name_read.proofs.Counts.{Reads_own}
 use Rattle.dnw_record.proofs.RecordReading.{record_own}
-use Rattle.dnw_c_base.proofs.Starts.{takes_onward, takes_within}
+use Rattle.dnw_c_base.proofs.Starts.{takes_onward}
 use Rattle.dnw_c_messages.specs.ListCalls.{BeginsWithOctet, IsNext, ScansItem, ScansTo, TakesQuestion, at_start, held_with, set_key, more_items, place_of}
 
 -- A decoder is further on in the same octets.

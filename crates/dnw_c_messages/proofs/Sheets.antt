@@ -1,10 +1,10 @@
 -- Rows and names that are put one after another.
-use Rattle.std.proofs.Common.{◌≡◌, ◌≤◌, ◌<◌, ℕ, ◌+◌, ◌-◌, List, [], ◌∷◌, ◌++◌, append_assoc, append-nil, drop, length, length-append, take, inl, inr, refl, sym, ap, ◌∙◌, subst, arith}
+use Rattle.std.proofs.Common.{◌≡◌, ◌≤◌, ℕ, ◌+◌, ◌-◌, List, [], ◌∷◌, ◌++◌, append_assoc, append-nil, drop, length, length-append, take, refl, sym, ap, ◌∙◌, arith}
 use Rattle.std.proofs.lemmas.List.{drop_all, drop_at, drop-drop, length-drop, length-take-le, take_all, take_at}
 use borrow.Rule.Slice.PartMut.{put_mid}
 use Rattle.dnw_base.specs.Names.{wire}
 use Rattle.dnw_name_read.specs.Buffers.{put}
-use Rattle.dnw_c_messages.specs.Listings.{Exceeds, Listing, named, with_name, with_row}
+use Rattle.dnw_c_messages.specs.Listings.{Listing, named, with_name, with_row}
 use Rattle.dnw_c_messages.specs.Inside.Sheets.{FillsTo, Fits, Onward, RowsAdvance, Sheet, listing, sheet}
 use Rattle.dnw_c_messages.specs.declared.rows.Listed.{Listed}
 use Rattle.dnw_c_messages.specs.declared.rows.TableRow.{TableRow}

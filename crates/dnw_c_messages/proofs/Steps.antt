@@ -1,10 +1,10 @@
 -- Steps that list a message follow one another.
-use Rattle.std.proofs.Common.{◌≡◌, ◌≤◌, ◌<◌, ℕ, ◌+◌, ◌-◌, List, [], ◌∷◌, ◌++◌, length, length-append, take, inl, inr, refl, sym, ap, ◌∙◌, subst, arith}
+use Rattle.std.proofs.Common.{◌≡◌, ℕ, List, [], ◌∷◌, ◌++◌, length, length-append, take, inl, inr, sym, subst, arith}
 use Rattle.std.proofs.lemmas.List.{length-take-le}
 use Rattle.dnw_c_base.specs.declared.failure.Failure.{Failure}
 use Rattle.dnw_c_base.specs.declared.failure.Failure.TheVariants.{NoRoom}
 use Rattle.dnw_c_messages.specs.Listings.{Exceeds, FailsTask, Halts, Listing, ListSteps, ListStep, Task, here, on, with_row}
-use Rattle.dnw_c_messages.specs.Inside.Sheets.{FillsTo, Fits, Goes, HaltsOn, Onward, RowsAdvance, Sheet, listing, sheet}
+use Rattle.dnw_c_messages.specs.Inside.Sheets.{FillsTo, Fits, Goes, HaltsOn, Onward, Sheet, listing, sheet}
 use Rattle.dnw_c_messages.specs.declared.rows.Listed.{Listed}
 use Rattle.dnw_c_messages.specs.declared.rows.TableRow.{TableRow}
 use Rattle.dnw_c_messages.proofs.Sheets.{onward_both, onward_none}

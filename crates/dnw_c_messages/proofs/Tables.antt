@@ -1,5 +1,5 @@
 -- The table of a whole message.
-use Rattle.std.proofs.Common.{◌≡◌, ◌≤◌, ◌<◌, ◌⊎◌, ℕ, List, [], ◌∷◌, ◌++◌, drop, length, slice_range, take, Result, Ok, Err, inl, inr, refl, sym, ap, ◌∙◌, subst, arith}
+use Rattle.std.proofs.Common.{◌≡◌, ◌≤◌, ℕ, List, [], ◌++◌, drop, length, slice_range, take, Result, Ok, Err, inr, sym, ap, ◌∙◌, subst, arith}
 use Rattle.std.specs.Prelude.{IfErr, IfOk, IsErrAnd}
 use Rattle.std.proofs.lemmas.List.{length-take-le}
 use lib.ListN.{take-append-drop}
@@ -9,10 +9,9 @@ use Rattle.dnw_message_read.specs.declared.header.HeaderCounts.{HeaderCounts}
 use Rattle.dnw_c_base.specs.declared.failure.Failure.{Failure}
 use Rattle.dnw_c_messages.specs.Listings.{Listing}
 use Rattle.dnw_c_messages.specs.TableCalls.{FailsTable, IsTableOf, PutsListing}
-use Rattle.dnw_c_messages.specs.Inside.Sheets.{Goes, HaltsOn, Onward, Sheet, listing, section_tasks, sheet}
+use Rattle.dnw_c_messages.specs.Inside.Sheets.{Goes, HaltsOn, Sheet, listing, section_tasks, sheet}
 use Rattle.dnw_c_messages.specs.declared.rows.Listed.{Listed}
 use Rattle.dnw_c_messages.specs.declared.rows.TableRow.{TableRow}
-use Rattle.dnw_c_messages.specs.declared.table.Table.{Table}
 
 -- a failure that a `?` returns
 pub gives_err : {T : Type 0} (Is : T → Type 0) (Fails : Failure → Type 0) (r : Result T Failure) (failure : Failure) → IsErrAnd r (λ e. e ≡ failure)

@@ -21,7 +21,6 @@ use Rattle.dnw_message_writer.specs.Sets.{cut_off}
 use Rattle.dnw_message_writer.specs.States.{AddsItem, BeginsMessage, released}
 use Rattle.dnw_message_writer.specs.declared.section.Section.{Section}
 use Rattle.dnw_message_writer.specs.declared.section.Section.TheVariants as Sections
-use Rattle.dnw_message_writer.specs.declared.section.WriteError.TheVariants.{NoRoom}
 use Rattle.dnw_message_writer.specs.declared.state.WriterState.{WriterState}
 use Rattle.dnw_c_base.specs.Offsets.{at_offset}
 use Rattle.dnw_c_base.specs.declared.failure.Failure.{Failure}

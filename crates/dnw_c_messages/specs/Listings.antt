@@ -1,10 +1,10 @@
 -- The table of a message (RFC 1035, section 4): a row for each question and record, each followed by a row for each field of its data,
 -- and the wire forms of all names, one after another. What is listed is said step by step, so that it is also known how far it came if
 -- the message ends too early, its names follow too many pointers, or there is no room.
-use Rattle.std.specs.Prelude.{◌≡◌, ◌≢◌, ◌<◌, ◌≤◌, ◌⊎◌, ℕ, ◌+◌, ◌-◌, Option, Some, None, List, [], ◌∷◌, ◌++◌, drop, length, map, slice_range, Result, true, false, Bool}
+use Rattle.std.specs.Prelude.{◌≡◌, ◌≢◌, ◌<◌, ◌≤◌, ◌⊎◌, ℕ, ◌+◌, ◌-◌, List, [], ◌∷◌, ◌++◌, drop, length, map, slice_range}
 use Rattle.dnw_base.specs.declared.error.DecodeError.{DecodeError}
 use Rattle.dnw_base.specs.Decoder.{Decoder}
-use Rattle.dnw_base.specs.Names.{encoded_size, wire}
+use Rattle.dnw_base.specs.Names.{wire}
 use Rattle.dnw_name_read.specs.Reading.{TakesName}
 use Rattle.dnw_data.specs.declared.kind.Kind.{Kind}
 use Rattle.dnw_data.specs.declared.kind.Kind.TheVariants.{Name}
@@ -15,17 +15,15 @@ use Rattle.dnw_data.specs.Walks.{IsAtEnd}
 use Rattle.dnw_record.specs.DataCopies.{data_start, record_kinds}
 use Rattle.dnw_record.specs.Records.{fixed_at, fixed_size, length_field, number_at, ttl_field}
 use Rattle.dnw_message_read.specs.Headers.{header_of, header_size}
-use Rattle.dnw_message_read.specs.declared.header.Header.{Header}
 use Rattle.dnw_message_read.specs.Messages.{FailsHere, Item, ItemAt, Part, question_rest, record_in, record_rest, rest_of, sections_of}
 use Rattle.dnw_message_read.specs.declared.error.MessageErrorKind.{MessageErrorKind}
 use Rattle.dnw_message_read.specs.declared.error.Section.{Section}
 use Rattle.dnw_message_read.specs.declared.error.Section.TheVariants.{Queries}
 use Rattle.dnw_c_base.specs.Failures.{number, of_decode}
 use Rattle.dnw_c_base.specs.declared.failure.Failure.{Failure}
-use Rattle.dnw_c_base.specs.declared.failure.Failure.TheVariants.{MessageCut, NoRoom, TooManyPointers, WrongDataLength}
+use Rattle.dnw_c_base.specs.declared.failure.Failure.TheVariants.{NoRoom, TooManyPointers, WrongDataLength}
 use Rattle.dnw_c_messages.specs.FieldCalls.{field_kind, head_of}
 use Rattle.dnw_c_messages.specs.MessageCalls.{of_message, section_number}
-use Rattle.dnw_c_messages.specs.declared.rows.Listed.{Listed}
 use Rattle.dnw_c_messages.specs.declared.rows.TableRow.{TableRow}
 
 -- ---- rows

@@ -1,5 +1,5 @@
 -- What the names of a state make of it.
-use Rattle.std.proofs.Common.{◌≡◌, ℕ, List, [], Option, Some, None, true, refl, inl, inr}
+use Rattle.std.proofs.Common.{◌≡◌, ℕ, List, Option, Some, None, true, refl, inl, inr}
 use Rattle.dnw_base.specs.Names.{NameValue}
 use Rattle.dnw_c_zone.specs.Inside.StateNames.{IsNoStateName, IsOwnerForm, LacksStateName}
 use Rattle.dnw_c_zone.specs.ParseCalls.{IsOrigin}

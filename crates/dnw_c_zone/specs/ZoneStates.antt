@@ -1,5 +1,5 @@
 -- What a caller's plain state says of a zone file that is read, and which state says what its entries said so far.
-use Rattle.std.specs.Prelude.{◌≡◌, ◌⊎◌, ℕ, ◌==◌, if◌then◌else◌, true, List, [], length, take, replicate, Option, Some, None}
+use Rattle.std.specs.Prelude.{◌≡◌, ◌⊎◌, ℕ, ◌==◌, if◌then◌else◌, List, [], length, take, replicate, Option, Some, None}
 use Rattle.dnw_base.specs.DnsClasses.{class_code, class_of_code}
 use Rattle.dnw_base.specs.Names.{NameValue, wire}
 use Rattle.dnw_c_base.specs.declared.failure.Failure.{Failure}

@@ -1,10 +1,9 @@
 -- Numbers of bitmaps, one after another.
-use Rattle.std.proofs.Common.{◌≡◌, ◌≢◌, ◌<◌, ◌≤◌, ◌+◌, ℕ, Bool, true, false, List, [], ◌∷◌, ◌++◌, length, refl, sym, ap, ◌∙◌, subst, arith, IfOk}
-use Rattle.std.specs.Prelude.{Result, Ok, Err, None, Some}
+use Rattle.std.proofs.Common.{◌≡◌, ◌≢◌, ◌<◌, ℕ, Bool, List, [], ◌∷◌, ◌++◌, length, refl, sym, ap, ◌∙◌, subst, arith, IfOk}
+use Rattle.std.specs.Prelude.{Result, None, Some}
 use Rattle.dnw_data.specs.Values.{octets}
 use Rattle.dnw_data.specs.declared.kind.Shown.{Shown}
-use Rattle.dnw_data.specs.declared.kind.Shown.TheVariants.{Text, Tag, Hex, Base32Hex, Base64, MaybeBase64, Nsap, Ports, OldTypes}
-use Rattle.dnw_zone_values.specs.Inside.Steps.{PushesOne}
+use Rattle.dnw_data.specs.declared.kind.Shown.TheVariants.{Ports, OldTypes}
 use Rattle.dnw_zone_data.specs.Appending.{AppendsOne}
 use Rattle.dnw_zone_data.specs.Bitmaps.{with_number, with_numbers, AreBitWords, IsBitWord}
 use Rattle.dnw_zone_data.specs.Inside.BitWords.{LeadToBits}

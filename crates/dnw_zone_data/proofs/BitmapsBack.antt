@@ -17,7 +17,7 @@ use Rattle.dnw_data.specs.declared.kind.Shown.TheVariants.{Ports, OldTypes}
 use Rattle.dnw_zone_values.specs.Mnemonics.{service_named}
 use Rattle.dnw_zone_values.specs.Octets.{IsOctets}
 use Rattle.dnw_zone_values.specs.Prefixes.{ends_in_no_zero}
-use Rattle.dnw_zone_data.specs.Bitmaps.{is_bitmap, number_text, numbers_text, with_number, with_numbers, AreBits, AreBitWords, IsBitWord, PrintsBits}
+use Rattle.dnw_zone_data.specs.Bitmaps.{numbers_text, with_number, with_numbers, AreBits, AreBitWords, IsBitWord}
 use Rattle.dnw_zone_data.specs.DataTextLaws.{FieldComesBack}
 use Rattle.dnw_zone_data.specs.Generic.{generic_mark}
 use Rattle.dnw_zone_data.specs.Words.{is_end, word, after_spaces}

@@ -20,7 +20,7 @@ use Rattle.dnw_data.specs.declared.kind.ListKind.TheVariants as lists
 use Rattle.dnw_data.specs.declared.kind.Shown.{Shown}
 use Rattle.dnw_data.specs.declared.kind.Shown.TheVariants.{Text, Tag, Hex, Base32Hex, Base64, MaybeBase64, Nsap, Ports, OldTypes}
 use Rattle.dnw_data.specs.Fields.{own_at, size_at, TakesField}
-use Rattle.dnw_data.specs.Values.{FieldValue, name, u16, u48, u64, counted, long_counted, shaped, octets, prefixes, names, items, long_counted_size}
+use Rattle.dnw_data.specs.Values.{FieldValue, name, u16, u48, counted, long_counted, octets, long_counted_size}
 use Rattle.dnw_data.proofs.Shaping.{long_is}
 use Rattle.dnw_zone_values.specs.Octets.{IsOctets}
 use Rattle.dnw_zone_values.specs.Strings.{IsString}

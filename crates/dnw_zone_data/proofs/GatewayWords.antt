@@ -1,20 +1,19 @@
 -- What words and octets of gateways, relays and host identities are.
 use Rattle.std.proofs.Common.{◌≡◌, ◌≤◌, ◌<◌, ℕ, ◌+◌, ◌-◌, ◌*◌, ◌/◌, ◌%◌, ◌==◌, Bool, true, false, List, [], ◌∷◌, ◌++◌, length, slice_index, take, drop, IfOk, refl, sym, ap, ◌∙◌, subst, arith, append_assoc, length-drop, inl, inr}
 use Rattle.std.specs.Prelude.{Option, Result, Ok, Err}
-use Rattle.std.specs.Int.{w16, from_be_bytes, to_be_bytes}
 use Rattle.std.specs.Net.Addr.{ipv4_octets, ipv6_segments, octets_of}
 use Rattle.std.specs.Net.Grammar.{IsIpv4Text, IsIpv6Text}
 use Rattle.std.specs.declared.net.Ipv4Addr.{Ipv4Addr}
 use Rattle.std.specs.declared.net.Ipv6Addr.{Ipv6Addr}
 use Rattle.std.proofs.lemmas.List.{take_all}
 use Rattle.dnw_base.specs.Names.{NameValue}
-use Rattle.dnw_data.specs.declared.kind.Shape.TheVariants.{Gateway, Relay, HostIdentity}
+use Rattle.dnw_data.specs.declared.kind.Shape.TheVariants.{Gateway, Relay}
 use Rattle.dnw_data.specs.declared.kind.Shown.TheVariants.{Hex, Base64}
 use Rattle.dnw_data.specs.Values.{FieldValue}
 use Rattle.dnw_zone_values.specs.Inside.Steps.{PushesOne}
 use Rattle.dnw_zone_values.specs.Numbers.{max_u8, IsNumberText}
 use Rattle.dnw_zone_data.specs.Appending.{AppendsOne}
-use Rattle.dnw_zone_data.specs.Gateways.{AreTagAndKey, IsGatewayEnd, IsGateway, IsIdentity, IsRelay, PrintsEnd, PrintsGateway, PrintsRelay, PrintsIdentity, identity_wire, of_shape, relay_flag}
+use Rattle.dnw_zone_data.specs.Gateways.{AreTagAndKey, IsGatewayEnd, IsGateway, IsIdentity, IsRelay, PrintsEnd, PrintsGateway, PrintsRelay, identity_wire, of_shape, relay_flag}
 use Rattle.dnw_zone_data.specs.Parsing.{SpellsOctets}
 use Rattle.dnw_zone_data.proofs.GatewaysBack.{end_type}
 use Rattle.dnw_zone_data.proofs.OneText.{one_base64, one_hex}

@@ -1,9 +1,8 @@
 -- Gateways, relays and host identities are read as they were printed.
-use Rattle.std.proofs.Common.{◌≡◌, ◌≢◌, ℕ, zero, suc, ◌+◌, ◌*◌, ◌<◌, ◌≤◌, ◌⊎◌, true, List, [], ◌∷◌, ◌++◌, length, codes, decimal, slice_index, refl, sym, ap, ◌∙◌, subst, arith, append_assoc, append-nil, inl, inr}
-use Rattle.std.specs.Prelude.{Option, Some, None}
+use Rattle.std.proofs.Common.{◌≡◌, ◌≢◌, ℕ, suc, ◌+◌, ◌*◌, ◌<◌, ◌≤◌, ◌⊎◌, true, List, [], ◌∷◌, ◌++◌, length, codes, decimal, slice_index, refl, sym, ap, ◌∙◌, subst, arith, append_assoc, append-nil, inl, inr}
+use Rattle.std.specs.Prelude.{Option}
 use Rattle.std.specs.List.{AllByRecursion}
-use Rattle.std.specs.Int.{w16, to_be_bytes}
-use Rattle.std.specs.Net.Addr.{ipv4_octets, segments_of}
+use Rattle.std.specs.Net.Addr.{segments_of}
 use Rattle.std.specs.Net.Text.{ipv4_text, ipv6_text}
 use Rattle.std.specs.declared.net.Ipv4Addr.{Ipv4Addr}
 use Rattle.std.specs.declared.net.Ipv6Addr.{Ipv6Addr}
@@ -26,8 +25,7 @@ use Rattle.dnw_zone_values.proofs.ParamTextsBack.{base64_open, base64_some, bare
 use Rattle.dnw_zone_data.specs.declared.extent.Extent.TheVariants.{Three}
 use Rattle.dnw_zone_data.specs.declared.number_form.NumberForm.{NumberForm}
 use Rattle.dnw_zone_data.specs.Words.{after_spaces, after_word, is_end, second_word_on, word}
-use Rattle.dnw_zone_data.specs.NameReading.{named_at}
-use Rattle.dnw_zone_data.specs.Gateways.{AreTagAndKey, IsGatewayEnd, PrintsEnd, PrintsShaped, identity_wire, of_shape, relay_flag, three_words}
+use Rattle.dnw_zone_data.specs.Gateways.{IsGatewayEnd, PrintsEnd, identity_wire, of_shape, relay_flag, three_words}
 use Rattle.dnw_zone_data.specs.Generic.{generic_mark}
 use Rattle.dnw_zone_data.specs.Parsing.{AreThree, ReadsField, extent_of}
 use Rattle.dnw_zone_data.specs.DataTextLaws.{FieldComesBack, IsFieldReadBack}

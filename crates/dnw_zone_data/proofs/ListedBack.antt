@@ -1,5 +1,5 @@
 -- What is printed of prefixes, locators, numbers of nodes and addresses of NSAP is read as that field.
-use Rattle.std.proofs.Common.{◌≡◌, ℕ, ◌<◌, List, [], ◌∷◌, ◌++◌, decimal, refl, arith, append-nil}
+use Rattle.std.proofs.Common.{◌≡◌, ℕ, ◌<◌, List, [], decimal, refl, arith, append-nil}
 use Rattle.std.proofs.lemmas.Fmt.{decimal_nonempty}
 use Rattle.dnw_data.specs.declared.kind.Kind.TheVariants.{Locator, NodeNumber, Octets, List as ListOf}
 use Rattle.dnw_data.specs.declared.kind.ListKind.TheVariants as lists

@@ -1,8 +1,7 @@
 -- A location that is printed is read as the same octets.
-use Rattle.std.proofs.Common.{◌≡◌, ◌≢◌, ◌≤◌, ◌<◌, ℕ, ◌+◌, ◌-◌, ◌*◌, ◌/◌, ◌%◌, ◌^◌, ◌&&◌, Bool, true, false, List, [], ◌∷◌, ◌++◌, length, slice_index, decimal, codes, refl, sym, ap, ◌∙◌, subst, arith, append-nil, length-append, inl, inr}
+use Rattle.std.proofs.Common.{◌≡◌, ◌≢◌, ◌≤◌, ◌<◌, ℕ, ◌-◌, ◌*◌, ◌/◌, ◌%◌, ◌^◌, ◌&&◌, true, List, [], ◌∷◌, ◌++◌, length, slice_index, decimal, codes, refl, sym, ap, ◌∙◌, arith, length-append, inl, inr}
 use Rattle.std.specs.Prelude.{nat_lt}
-use Rattle.std.specs.List.{list_all}
-use Rattle.std.proofs.lemmas.Bool.{and_parts, cases_Bool, cases_lt, le-ltb, leb-true, lt-ltb, ltb-true}
+use Rattle.std.proofs.lemmas.Bool.{and_parts, cases_Bool, cases_lt, le-ltb, leb-true, lt-ltb}
 use Rattle.std.proofs.lemmas.Fmt.{decimal_nonempty}
 use Rattle.dnw_data.specs.declared.kind.Shape.TheVariants as shapes
 use Rattle.dnw_data.specs.Values.{shaped}
@@ -10,9 +9,9 @@ use Rattle.dnw_zone_values.specs.declared.location.Axis.{Axis}
 use Rattle.dnw_zone_values.specs.declared.location.Axis.TheVariants.{Latitude, Longitude}
 use Rattle.dnw_zone_values.specs.declared.location.Location.{Location}
 use Rattle.dnw_zone_values.specs.Octets.{IsOctets}
-use Rattle.dnw_zone_values.specs.Locations.{altitude_text, angle_words, arc, degree, depth, hundredths_text, is_angle, is_location, is_precision, letter, location_at, location_words, max_degrees, minute, negative_letter, origin, positive_letter, size_of, size_text, words_text, thousandths_text, PrintsLocation}
+use Rattle.dnw_zone_values.specs.Locations.{altitude_text, angle_words, arc, degree, depth, hundredths_text, is_angle, is_location, is_precision, letter, location_at, location_words, max_degrees, minute, origin, size_of, size_text, words_text, thousandths_text, PrintsLocation}
 use Rattle.dnw_zone_values.proofs.LocationsBack.{back, few_degrees, first_is, size_fits, wire_back}
-use Rattle.dnw_zone_data.specs.Words.{after_spaces, after_word, is_end, word}
+use Rattle.dnw_zone_data.specs.Words.{after_spaces, is_end, word}
 use Rattle.dnw_zone_data.specs.Generic.{generic_mark}
 use Rattle.dnw_zone_data.specs.Locations.{AreLocation, AreWords}
 use Rattle.dnw_zone_data.proofs.Items.{starts_twice}

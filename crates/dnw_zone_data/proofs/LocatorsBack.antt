@@ -1,17 +1,16 @@
 -- What is printed of locators, of numbers of nodes and of addresses of NSAP is parsed as them, and a text is one of each at most.
-use Rattle.std.proofs.Common.{◌≡◌, ℕ, suc, ◌/◌, ◌%◌, ◌<◌, ◌≤◌, true, List, [], ◌∷◌, ◌++◌, length, slice_index, Ok, refl, sym, ap, ◌∙◌, arith, decimal}
+use Rattle.std.proofs.Common.{◌≡◌, ℕ, suc, ◌/◌, ◌%◌, ◌<◌, true, List, [], ◌∷◌, ◌++◌, Ok, refl, sym, ap, ◌∙◌, arith, decimal}
 use Rattle.hex.specs.Hex.{encode_with, lower_digits}
 use Rattle.dnw_data.specs.Values.{FieldValue, u64, octets}
 use Rattle.dnw_zone_values.specs.Octets.{IsOctets}
-use Rattle.dnw_zone_values.specs.Numbers.{IsNumberText}
 use Rattle.dnw_zone_values.specs.Pairs.{lower_digit}
 use Rattle.dnw_zone_values.specs.Locators.{group_text, locator_text}
 use Rattle.dnw_zone_values.specs.Nsap.{nsap_text}
 use Rattle.std.proofs.lemmas.Fmt.{decimal_is_IsNumeral}
 use Rattle.dnw_zone_values.proofs.LocatorsBack.{locator_back, one_locator}
 use Rattle.dnw_zone_values.proofs.NsapBack.{nsap_back}
-use Rattle.dnw_zone_data.specs.Locators.{max_u64, IsLocatorField, IsNodeNumber, IsNsapField}
-use Rattle.dnw_zone_data.proofs.Plain.{is_plain, all_plain, all_places, places_at, plain_append}
+use Rattle.dnw_zone_data.specs.Locators.{IsLocatorField, IsNodeNumber, IsNsapField}
+use Rattle.dnw_zone_data.proofs.Plain.{is_plain, all_plain, places_at, plain_append}
 
 -- ---- locators
 

@@ -1,5 +1,5 @@
 -- Octets that begin with the wire form of a name.
-use Rattle.std.proofs.Common.{◌≡◌, ◌≢◌, ◌+◌, ℕ, List, [], ◌∷◌, ◌++◌, length, drop, refl, sym, ap, ◌∙◌, subst, arith, append_assoc, append-nil}
+use Rattle.std.proofs.Common.{◌≡◌, ◌≢◌, ◌+◌, ℕ, List, [], ◌∷◌, ◌++◌, length, drop, refl, sym, ap, ◌∙◌, subst, arith, append_assoc}
 use Rattle.std.specs.Prelude.{flat_map}
 use Rattle.std.specs.List.{AllByRecursion}
 use Rattle.std.proofs.lemmas.List.{drop_at}
@@ -8,7 +8,7 @@ use Rattle.dnw_base.specs.Names.{AreLabels, encoded_size, wire}
 use Rattle.dnw_name_read.specs.Reading.{NameAt, TakesName}
 use Rattle.dnw_name_read.proofs.Back.{reads_back}
 use Rattle.dnw_name_read.proofs.Unique.{Reads_unique}
-use Rattle.dnw_zone_data.specs.NameLists.{PrintsNames, names_text}
+use Rattle.dnw_zone_data.specs.NameLists.{PrintsNames}
 
 first_at : (octets : List ℕ) (labels : List (List ℕ)) (rest : List ℕ) → AreLabels labels → octets ≡ wire labels ++ rest → NameAt octets 0 labels (encoded_size labels) 0
 first_at octets labels rest are e =

@@ -8,7 +8,7 @@ use Rattle.dnw_data.specs.declared.kind.ListKind.TheVariants as lists
 use Rattle.dnw_data.specs.Values.{items, names}
 use Rattle.dnw_name_text.specs.NameTexts.{full_name_text}
 use Rattle.dnw_zone_values.specs.Octets.{IsOctets}
-use Rattle.dnw_zone_data.specs.Words.{after_spaces, after_word, is_end, word}
+use Rattle.dnw_zone_data.specs.Words.{after_spaces, is_end, word}
 use Rattle.dnw_zone_data.specs.NameReading.{named_at}
 use Rattle.dnw_zone_data.specs.NameLists.{AreNameWords, names_text}
 use Rattle.dnw_zone_data.specs.Generic.{generic_mark}

@@ -1,9 +1,7 @@
 -- Names of a list, one after another.
-use Rattle.std.proofs.Common.{◌≡◌, ◌≢◌, ℕ, ◌<◌, true, List, [], ◌∷◌, ◌++◌, length, refl, sym, ap, ◌∙◌, subst, arith, append_assoc, append-nil}
-use Rattle.std.specs.Prelude.{Option, Some, None, flat_map}
-use Rattle.std.specs.List.{AllByRecursion}
-use Rattle.std.proofs.lemmas.Option.{same_Some}
-use Rattle.dnw_base.specs.Names.{NameValue, AreLabels, wire}
+use Rattle.std.proofs.Common.{◌≡◌, ◌≢◌, ℕ, ◌<◌, List, [], ◌∷◌, ◌++◌, length, sym, ap, ◌∙◌, subst, arith}
+use Rattle.std.specs.Prelude.{Option, Some, None}
+use Rattle.dnw_base.specs.Names.{NameValue}
 use Rattle.dnw_zone_data.specs.Words.{after_spaces, after_word, word}
 use Rattle.dnw_zone_data.specs.NameReading.{named_at}
 use Rattle.dnw_zone_data.specs.NameLists.{AreNameWords}

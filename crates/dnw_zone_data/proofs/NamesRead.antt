@@ -1,5 +1,5 @@
 -- The name that a word gives, by what is read of it.
-use Rattle.std.proofs.Common.{◌≡◌, ℕ, Bool, true, false, List, refl, sym, ap, ◌∙◌, subst}
+use Rattle.std.proofs.Common.{◌≡◌, ℕ, true, false, List, refl, sym, ap, ◌∙◌, subst}
 use Rattle.std.specs.Prelude.{Option, Some, None, Ok, Err}
 use Rattle.dnw_base.specs.Names.{AreLabels, NameValue, wire}
 use Rattle.dnw_name_form.proofs.Wires.{IsWire_wire, labels_of_wire}

@@ -7,7 +7,6 @@ use Rattle.dnw_base.specs.RecordTypes.{type_code}
 use Rattle.dnw_base.specs.Names.{NameValue}
 use Rattle.dnw_data.specs.declared.kind.Kind.{Kind}
 use Rattle.dnw_data.specs.declared.kind.Kind.TheVariants.{LongTime, ChaosAddress, LongCounted, Shaped, Octets}
-use Rattle.dnw_data.specs.declared.kind.Kind.TheVariants as kinds
 use Rattle.dnw_data.specs.declared.kind.Shape.TheVariants.{AddressSuffix}
 use Rattle.dnw_data.specs.declared.kind.Shown.TheVariants.{Hex, MaybeBase64}
 use Rattle.std.specs.List.{list_all, list_any}

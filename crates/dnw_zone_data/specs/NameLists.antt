@@ -1,5 +1,5 @@
 -- Lists of names as text, each a word, none or more (RFC 8005, section 6).
-use Rattle.std.specs.Prelude.{◌≡◌, ◌≢◌, ℕ, Option, Some, List, [], ◌∷◌, ◌++◌, flat_map}
+use Rattle.std.specs.Prelude.{◌≡◌, ◌≢◌, ℕ, Option, Some, List, [], ◌∷◌, flat_map}
 use Rattle.std.specs.List.{AllByRecursion}
 use Rattle.dnw_base.specs.Names.{AreLabels, NameValue, wire}
 use Rattle.dnw_data.specs.declared.kind.ListKind.TheVariants as lists

@@ -1,5 +1,5 @@
 -- How the numbers in data of each type are written: in decimal, and those of some fields also in another form.
-use Rattle.std.specs.Prelude.{◌≡◌, ◌≤◌, ℕ, ◌==◌, ◌&&◌, ◌||◌, ◌-◌, Bool, not, true, length, slice_index, if◌then◌else◌, List, [], ◌∷◌, Some}
+use Rattle.std.specs.Prelude.{◌≡◌, ◌≤◌, ℕ, ◌==◌, ◌||◌, ◌-◌, Bool, not, true, length, slice_index, if◌then◌else◌, List, [], ◌∷◌, Some}
 use Rattle.std.specs.Char.{is_ascii_digit}
 use Rattle.std.specs.List.{list_all, list_any}
 use Rattle.dnw_zone_lexer.specs.Times.{max_ttl, time_seconds}

@@ -15,7 +15,7 @@ use Rattle.dnw_data.proofs.Codes.{code_back}
 use Rattle.dnw_data.proofs.Taking.{moves_on}
 use Rattle.dnw_data.specs.Fields.{own_at, size_at, TakesField}
 use Rattle.dnw_data.specs.TypeSets.{octets_codes}
-use Rattle.dnw_data.specs.Values.{FieldValue, name, u16, u48, u64, counted, octets, long_counted, shaped, names, items}
+use Rattle.dnw_data.specs.Values.{FieldValue, name, u16, u48, counted, octets, long_counted}
 use Rattle.dnw_data.specs.declared.kind.Kind.{Kind}
 use Rattle.dnw_data.specs.declared.kind.Kind.TheVariants as kinds
 use Rattle.dnw_data.specs.declared.kind.ListKind.TheVariants as lists

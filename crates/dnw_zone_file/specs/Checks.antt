@@ -1,6 +1,6 @@
 -- What zones are found to have that the standards forbid or advise against (RFC 1034; RFC 1035, section 5.2; RFC 2181; RFC 4035;
 -- RFC 6672), by the list of their records.
-use Rattle.std.specs.Prelude.{◌≡◌, ◌<◌, ◌≤◌, ◌+◌, ◌-◌, ◌==◌, ◌&&◌, ◌||◌, ◌⊎◌, ⊤, ℕ, Bool, true, false, not, if◌then◌else◌, nat_le, is_none, is_some, List, [], ◌∷◌, ◌++◌, length, drop, Option, Some, None, slice_get, slice_index_or}
+use Rattle.std.specs.Prelude.{◌≡◌, ◌<◌, ◌+◌, ◌-◌, ◌==◌, ◌&&◌, ◌||◌, ◌⊎◌, ℕ, Bool, true, false, not, if◌then◌else◌, nat_le, is_some, List, [], ◌∷◌, ◌++◌, length, drop, Option, Some, None, slice_get, slice_index_or}
 use Rattle.std.specs.List.{position_from}
 use Rattle.std.specs.List.Sorted.{IsSortedByKey, IsSortedWithin}
 use Rattle.std.specs.Option.{option_or}

@@ -1,5 +1,5 @@
 -- The length of data before the data.
-use Rattle.std.proofs.Common.{◌≡◌, ℕ, ◌+◌, ◌-◌, List, [], ◌∷◌, ◌++◌, length, take, drop, refl, sym, ap, ◌∙◌, arith, append_assoc, length-append}
+use Rattle.std.proofs.Common.{◌≡◌, ℕ, ◌-◌, List, [], ◌∷◌, ◌++◌, length, take, drop, sym, ap, ◌∙◌, arith, append_assoc, length-append}
 use Rattle.std.specs.Int.{w16, to_be_bytes}
 use Rattle.dnw_base.specs.Names.{wire}
 use Rattle.std.proofs.lemmas.List.{drop_at, take_at}

@@ -5,7 +5,7 @@ use Rattle.dnw_zone_record.specs.declared.scan.Place.TheVariants.{Words, Escaped
 use Rattle.dnw_zone_record.specs.declared.scan.Octet.{Octet}
 use Rattle.dnw_zone_record.specs.declared.scan.Octet.TheVariants.{Kept, Blank, End, Wrong as IsWrong}
 use Rattle.dnw_zone_record.specs.declared.scan.Ending.{Ending}
-use Rattle.dnw_zone_record.specs.Lines.{end_at, line_from, line_of, on_octet, added_octet}
+use Rattle.dnw_zone_record.specs.Lines.{end_at, line_from, on_octet, added_octet}
 use Rattle.dnw_zone_record.specs.LineLaws.{WindowsAgree, is_settled_ending}
 
 end_is_cut : (place : Place) (grouped : Bool) → is_settled_ending (end_at place grouped) ≡ false

@@ -1,4 +1,4 @@
-use Rattle.std.proofs.Common.{◌++◌, ◌∷◌, []}
+use Rattle.std.proofs.Common.{◌∷◌, []}
 use Rattle.dnw_data.specs.Values.{seen}
 use Rattle.dnw_c_base.proofs.Exits.{exits}
 use Rattle.dnw_c_messages.specs.Listings.{fields}

@@ -1,8 +1,7 @@
-use Rattle.std.proofs.Common.{◌++◌, ◌∷◌}
 use Rattle.std.proofs.lemmas.Result.{IfErr-weaker, on_ok_weaker}
 use Rattle.dnw_c_base.proofs.Exits.{exits}
 use Rattle.dnw_c_messages.specs.Inside.Sheets.{sheet}
-use Rattle.dnw_c_messages.proofs.ItemSteps.{fields_halt, name_stops, other_rest, record_goes, record_halts, rest_lacks, row_within}
+use Rattle.dnw_c_messages.proofs.ItemSteps.{fields_halt, name_stops, other_rest, record_goes, record_halts, rest_lacks}
 use Rattle.dnw_c_messages.proofs.table.list_record.Goals as goal
 
 pub returns-in_err-name-clause-err : goal.returns-in_err-name-clause-err

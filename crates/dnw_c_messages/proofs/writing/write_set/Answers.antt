@@ -1,5 +1,5 @@
 -- A set is added, left out, or fails.
-use Rattle.std.proofs.Common.{◌≡◌, ◌≢◌, refl, rules}
+use Rattle.std.proofs.Common.{◌≢◌, refl, rules}
 use Rattle.dnw_c_base.specs.declared.failure.Failure.TheVariants.{MessageTooLong}
 use Rattle.dnw_c_messages.specs.ListCalls.{progress, set}
 use Rattle.dnw_c_messages.proofs.Runs.{set_fails, set_left_out, taken_message, taken_state}

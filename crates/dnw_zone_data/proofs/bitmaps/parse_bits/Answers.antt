@@ -1,4 +1,4 @@
-use Rattle.std.proofs.Common.{◌≡◌, List, ℕ, [], ◌∷◌, ◌++◌, length, refl, sym, ap, ◌∙◌, subst, arith}
+use Rattle.std.proofs.Common.{List, ℕ, [], ◌∷◌, ◌++◌, refl, sym, ap, ◌∙◌, subst, arith}
 use Rattle.dnw_data.specs.Values.{octets}
 use Rattle.dnw_zone_data.specs.Bitmaps.{with_number, IsBitWord}
 use Rattle.dnw_zone_data.specs.Inside.BitWords.{LeadToBits}

@@ -1,5 +1,5 @@
 -- What is after the mark is the number and the octets.
-use Rattle.std.proofs.Common.{◌≡◌, ℕ, List, length, inl, sym, ap, ◌∙◌, subst}
+use Rattle.std.proofs.Common.{◌≡◌, ℕ, List, inl, sym, ap, ◌∙◌, subst}
 use Rattle.std.proofs.lemmas.Result.{MatchResult-weaker}
 use Rattle.dnw_base.specs.DnsClasses.{class_code}
 use Rattle.dnw_base.specs.RecordTypes.{type_code}

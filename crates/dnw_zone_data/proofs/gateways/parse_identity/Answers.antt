@@ -1,4 +1,4 @@
-use Rattle.std.proofs.Common.{◌≡◌, ◌++◌, List, ℕ, refl, sym, subst}
+use Rattle.std.proofs.Common.{◌≡◌, ◌++◌, List, ℕ, refl}
 use Rattle.dnw_data.specs.declared.kind.Shape.TheVariants.{HostIdentity}
 use Rattle.dnw_data.specs.declared.kind.Shown.TheVariants.{Hex, Base64}
 use Rattle.dnw_zone_data.specs.Gateways.{AreTagAndKey, identity_wire, of_shape}

@@ -1,4 +1,4 @@
-use Rattle.std.proofs.Common.{◌≡◌, ◌++◌, ◌∙◌, ℕ, List, Bor, map, ap, refl, sym, subst}
+use Rattle.std.proofs.Common.{ℕ, List, Bor, map, ap, refl, subst}
 use Rattle.dnw_data.specs.declared.kind.Shape.TheVariants as shapes
 use Rattle.dnw_data.specs.Values.{shaped}
 use Rattle.dnw_zone_values.specs.declared.location.Location.{Location}

@@ -1,8 +1,5 @@
-use Rattle.std.proofs.Common.{List, ℕ, refl, sym, ap, ◌∙◌}
-use Rattle.std.specs.Prelude.{true}
+use Rattle.std.proofs.Common.{List, ℕ, refl, ◌∙◌}
 use Rattle.dnw_data.specs.Values.{counted}
-use Rattle.dnw_zone_values.specs.Inside.Steps.{PushesOne}
-use Rattle.dnw_zone_data.specs.Parsing.{SpellsShown}
 use Rattle.dnw_zone_data.proofs.Lengths.{counted_octets}
 use Rattle.dnw_zone_data.proofs.parsing.parse_counted.Goals as goal
 

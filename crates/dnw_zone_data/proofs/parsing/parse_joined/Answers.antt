@@ -1,5 +1,4 @@
-use Rattle.std.proofs.Common.{List, ℕ, sym, ap, ◌∙◌, subst, IfOk}
-use Rattle.dnw_zone_data.specs.Appending.{AppendsOne}
+use Rattle.std.proofs.Common.{List, ℕ, sym, ◌∙◌, subst, IfOk}
 use Rattle.dnw_zone_data.specs.Parsing.{SpellsOctets}
 use Rattle.dnw_zone_data.specs.Words.{is_no_space}
 use Rattle.dnw_zone_values.specs.Inside.Steps.{PushesOne}

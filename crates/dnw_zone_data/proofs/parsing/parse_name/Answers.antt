@@ -1,5 +1,4 @@
 use Rattle.std.specs.Option.{option_copied}
-use Rattle.dnw_zone_data.specs.NameReading.{named_at}
 use Rattle.dnw_zone_data.proofs.Pushed.{as_name}
 use Rattle.dnw_zone_data.proofs.parsing.parse_name.Goals as goal
 

@@ -1,7 +1,7 @@
 use Rattle.std.proofs.Common.{◌≡◌, ◌++◌, [], ◌∷◌, List, ℕ, length, refl, sym, ap, ◌∙◌, append_assoc, append-nil, arith}
 use Rattle.std.specs.Prelude.{string_bytes}
 use Rattle.std.proofs.lemmas.List.{take-append-drop}
-use Rattle.dnw_zone_data.specs.PrefixLists.{prefixes_within, first_prefix_size}
+use Rattle.dnw_zone_data.specs.PrefixLists.{prefixes_within}
 use Rattle.dnw_zone_data.proofs.TypeSteps.{after_nil}
 use Rattle.dnw_zone_data.proofs.PrefixSteps.{prefix_more, prefix_short, prefix_none, spaced_more, no_prefixes, all_prefixes}
 use Rattle.dnw_zone_data.proofs.Empty.{is_empty, not_empty}

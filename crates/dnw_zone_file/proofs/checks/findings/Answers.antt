@@ -1,6 +1,4 @@
-use Rattle.std.proofs.Common.{refl, rules, arith, sym, ◌∙◌, ap}
-use Rattle.dnw_zone_file.specs.Checks.{apex_findings}
-use Rattle.dnw_zone_file.specs.Findings.{listed}
+use Rattle.std.proofs.Common.{refl, rules, arith}
 use Rattle.dnw_zone_file.proofs.Adding.{begins, ends, goes_on}
 use Rattle.dnw_zone_file.proofs.checks.findings.Goals as goal
 

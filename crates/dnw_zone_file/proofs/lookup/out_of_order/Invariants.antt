@@ -1,4 +1,3 @@
-use Rattle.std.proofs.Common.{ℕ}
 use Rattle.std.specs.List.Sorted.{IsSortedWithin}
 use Rattle.std.specs.Ordering.{is_lt}
 use Rattle.dnw_name_order.specs.Order.{labels_cmp}

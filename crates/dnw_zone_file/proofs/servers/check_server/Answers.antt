@@ -1,7 +1,6 @@
-use Rattle.std.proofs.Common.{◌≡◌, ℕ, List, Some, None, sym, ap, ◌∙◌, subst}
+use Rattle.std.proofs.Common.{◌≡◌, Some, None, sym, ap, ◌∙◌, subst}
 use Rattle.dnw_base.specs.Decoder.{Decoder}
 use Rattle.dnw_base.specs.RecordTypes.{type_code}
-use Rattle.dnw_record.specs.RecordFields.{record_fields}
 use Rattle.dnw_zone_file.specs.Checks.{IsNameAfter, server_offset}
 use Rattle.dnw_zone_file.proofs.Adding.{no_name, no_server}
 use Rattle.dnw_zone_file.proofs.servers.check_server.Goals as goal

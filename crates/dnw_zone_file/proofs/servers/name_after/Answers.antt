@@ -1,4 +1,4 @@
-use Rattle.std.proofs.Common.{◌≡◌, ℕ, List, sym, subst}
+use Rattle.std.proofs.Common.{◌≡◌, sym, subst}
 use Rattle.dnw_base.specs.Decoder.{Decoder}
 use Rattle.dnw_name_read.specs.Reading.{TakesName}
 use Rattle.dnw_zone_file.specs.Checks.{IsNameAfter}

@@ -1,4 +1,4 @@
-use Rattle.std.proofs.Common.{sym, ◌∙◌}
+use Rattle.std.proofs.Common.{◌∙◌}
 use Rattle.dnw_zone_record.proofs.DataLengths.{line_whole}
 use Rattle.dnw_zone_record.proofs.record_line.after_owner.Goals as goal
 

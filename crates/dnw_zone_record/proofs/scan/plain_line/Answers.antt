@@ -1,8 +1,7 @@
-use Rattle.std.proofs.Common.{◌≡◌, ℕ, List, [], ◌∷◌, ◌++◌, refl, sym, ap, ◌∙◌, append-nil, arith}
+use Rattle.std.proofs.Common.{[], ◌∷◌, ◌++◌, refl, sym, ◌∙◌}
 use Rattle.std.proofs.lemmas.List.{nil_from_length}
 use Rattle.dnw_zone_record.specs.declared.scan.Octet.TheVariants.{End, Wrong as IsWrong}
 use Rattle.dnw_zone_record.specs.declared.scan.Ending.TheVariants.{Line, Wrong}
-use Rattle.dnw_zone_record.specs.Lines.{line_from, line_of}
 use Rattle.dnw_zone_record.proofs.Runs.{plain_ended, plain_run, plain_step, plain_whole}
 use Rattle.dnw_zone_record.proofs.scan.plain_line.Goals as goal
 
