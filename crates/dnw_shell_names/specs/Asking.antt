@@ -18,9 +18,17 @@ asking = 256
 abbrev pub in_code : ℕ
 in_code = 1
 
--- the octets of the buffer: those of the greatest query without options, and of the options
+-- the octets of the greatest query without options: a header, the longest name, a type and a class, and an OPT record
+abbrev pub max_query : ℕ
+max_query = 12 + 255 + 4 + 11
+
+-- the octets of the buffer
 abbrev pub query_room : Asked → ℕ
-query_room asked = 282 + length asked.options.items
+query_room asked = max_query + length asked.options.items
+
+-- the size of a response that passes most links in one piece (DNS flag day 2020)
+abbrev pub max_payload : ℕ
+max_payload = 1232
 
 -- The message has a header with this id, and nothing else.
 abbrev pub BeginsAsking : Asked → WriterState → List ℕ → Type 0
@@ -32,10 +40,10 @@ HasQuestion asked w m =
     (v : WriterState) × (n : List ℕ) × BeginsAsking asked v n
     × AddsItem Queries (question_form slot_of asked.name.labels (type_code asked.record_type) in_code) v n w m
 
--- EDNS as a query says it (RFC 6891, section 6.1): the size of a response that passes most links in one piece, DO and the options
+-- EDNS as a query says it (RFC 6891, section 6.1): that size, DO and the options
 abbrev pub IsEdnsOf : Asked → Edns → Type 0
 IsEdnsOf asked edns =
-    (edns.max_payload ≡ 1232) × (edns.rcode_high ≡ 0) × (edns.version ≡ 0) × (edns.dnssec_ok ≡ asked.dnssec_ok)
+    (edns.max_payload ≡ max_payload) × (edns.rcode_high ≡ 0) × (edns.version ≡ 0) × (edns.dnssec_ok ≡ asked.dnssec_ok)
     × (edns.options.now ≡ asked.options.items)
 
 -- The OPT record is added, if it is asked for.

@@ -18,6 +18,14 @@ use Rattle.dnw_zone_data.specs.Words.{after_spaces, word, after_word}
 abbrev pub max_old_type : ℕ
 max_old_type = 127
 
+-- the most octets of a bitmap of ports
+abbrev pub max_port_octets : ℕ
+max_port_octets = 8192
+
+-- the most octets of a bitmap of types
+abbrev pub max_type_octets : ℕ
+max_type_octets = 16
+
 -- ---- parsing
 
 -- the values of the bits of an octet, from the highest
@@ -62,8 +70,8 @@ AreBits shown left own = (ns : List ℕ) × AreBitWords shown left ns × (own �
 
 -- the octets are a bitmap of ports, or one of types with none above the greatest and not type 0, and cannot be shorter
 abbrev pub is_bitmap : Shown → List ℕ → Bool
-is_bitmap Ports own = nat_le (length own) 8192 && ends_in_no_zero own
-is_bitmap OldTypes own = nat_le (length own) 16 && (nat_lt (slice_index own 0) 128 && ends_in_no_zero own)
+is_bitmap Ports own = nat_le (length own) max_port_octets && ends_in_no_zero own
+is_bitmap OldTypes own = nat_le (length own) max_type_octets && (nat_lt (slice_index own 0) 128 && ends_in_no_zero own)
 is_bitmap shown own = false
 
 -- a number of a bitmap after a space
