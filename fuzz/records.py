@@ -524,13 +524,19 @@ def has_other_value(sample):
     return any(not is_of_form(key, value) for key, value in values_of(sample).items())
 
 
-def breaks_a_rule(sample):
-    """Service parameters that are against a rule of RFC 9460, sections 2.4.2, 7.1.1 or 8."""
+def lacks_a_key(sample):
+    """Service parameters without one that `mandatory` lists (RFC 9460, section 8)."""
     values = values_of(sample)
     listed = values.get(0, b"")
     mandatory = [int.from_bytes(listed[at : at + 2], "big") for at in range(0, len(listed), 2)]
+    return not set(mandatory) <= set(values)
+
+
+def breaks_a_rule(sample):
+    """Service parameters that are against a rule of RFC 9460, sections 2.4.2, 7.1.1 or 8."""
+    values = values_of(sample)
     is_alias = sample.data[:2] == b"\0\0"
-    return (is_alias and values != {}) or (2 in values and 1 not in values) or not set(mandatory) <= set(values)
+    return (is_alias and values != {}) or (2 in values and 1 not in values) or lacks_a_key(sample)
 
 
 def has_odd_protocol(sample):
@@ -634,18 +640,17 @@ DIFFERENCES = [
     (Dnspython, [THEIRS], "CERT", has_mnemonic, "prints mnemonics, and ours takes numbers"),
     (Dnspython, [THEIRS], "NSEC3", is_padded, "prints padding, or nothing for no hash"),
     (Dnspython, [THEIRS], "NSEC NSEC3 CSYNC", is_longer, "has no text for a bitmap with zeros at the end of a window"),
-    (Dnspython, [THEIRS], "WKS TKEY TSIG", always, "has a text, and ours has that of any data"),
+    (Dnspython, [THEIRS], "TKEY TSIG", always, "has a text, and ours has that of any data"),
     (Dnspython, [THEIRS], "HIP", lambda sample: b"xn--" in sample.data.lower(), "prints labels in Punycode in Unicode"),
     (Dnspython, [OURS_THERE], "IPSECKEY", has_no_key, "wants a word for no octets"),
     (Dnspython, [OURS_THERE], "LOC", loses_a_centimetre, "reads an altitude as a float, and loses a centimetre"),
-    (Dnspython, [OURS_THERE], "MD MF MB MG MR MINFO", always, "has no text but that of any data"),
+    (Dnspython, [OURS_THERE], "MD MF MB MG MR MINFO NXT", always, "has no text but that of any data"),
     (Dnspython, [OURS_THERE], "HINFO NAPTR CAA URI", has_high_octets, "takes an octet above 127 for a character, and writes that in UTF-8"),
     (Dnspython, [OURS_THERE], "NSEC NSEC3 CSYNC", has_zero, "refuses type 0 in a bitmap"),
     (Dnspython, [OURS_THERE], BASE, is_empty, "wants a word for no octets"),
     (Dnspython, [OURS_THERE], "NSEC3", is_padded, "wants padding"),
     (Ldns, ALL, "ISDN", has_many_strings, "refuses more than two strings, or an empty second one"),
     (Ldns, ALL, "NSAP-PTR", always, "takes the name for a string"),
-    (Ldns, [THEIRS], "NXT", always, "has a text, and ours has that of any data"),
     (Ldns, ALL, "HIP", is_no_hip, "refuses other octets than those of RFC 8005"),
     (Ldns, [THEIRS], "SVCB HTTPS", has_other_value, "has another text, or none, for a value that has not the form of its key"),
     (Ldns, [THEIRS, OURS_THERE], "SVCB HTTPS", has_odd_protocol, "has no escapes in a list of protocols"),
@@ -661,7 +666,12 @@ DIFFERENCES = [
     (Ldns, [THEIRS], "IPSECKEY HIP", lambda sample: b'"' in sample.data, "prints a quote in a name without a backslash"),
     (Ldns, [THEIRS, OURS_THERE], "IPSECKEY", has_no_key, "wants a word for no octets"),
     (Ldns, [OURS_THERE], "IPSECKEY HIP", lambda sample: b"@" in sample.data, "takes a name that begins with @ for the origin, with a backslash before it too"),
-    (Ldns, [THEIRS], "WKS TKEY TSIG", always, "has a text, and ours has that of any data"),
+    (Ldns, [THEIRS], "TKEY TSIG", always, "has a text, and ours has that of any data"),
+    (Ldns, [THEIRS], "NXT", always, "prints the bitmap in the form of any data"),
+    (Ldns, [OURS_THERE], "NXT", always, "takes no types for the bitmap"),
+    (Ldns, [THEIRS], "WKS", always, "prints protocols and ports by the names that the machine's files have"),
+    (Ldns, [OURS_THERE], "WKS", is_empty, "wants a port"),
+    (Ldns, [THEIRS], "SVCB HTTPS", lacks_a_key, "prints parameters without a key that `mandatory` lists, and ours wants it"),
     (Ldns, [OURS_THERE], None, lambda sample: len(sample.line.split(" ")[0]) > 254, "refuses an owner's text of more than 254 characters"),
     (Ldns, [OURS_THERE], None, begins_with_at, "takes a name that begins with @ for the origin, with a backslash before it too"),
     (Ldns, [OURS_THERE], "SVCB HTTPS", has_other_value, "refuses a value that has not the form of its key"),
