@@ -4,7 +4,7 @@ ghost use Rattle.dnw_base.specs.Names.{AreLabels, wire};
 ghost use Rattle.dnw_data.specs.Table.{fields_of};
 ghost use Rattle.dnw_data.specs.Values.{counted_size, own_size};
 ghost use Rattle.dnw_message_writer.specs.Data.{AreOfData, StartsNoName, are_to_compress, is_to_compress};
-ghost use Rattle.dnw_message_writer.specs.Inside.Splitting.{HasField, HasNoField, HasSigner, IsPlain, is_usual_name, last_compressed, most_pieces};
+ghost use Rattle.dnw_message_writer.specs.Inside.Splitting.{HasField, HasNoField, HasSigner, IsPlain, is_usual_name, last_compressed, most_pieces, rrsig_code};
 ghost use Rattle.dnw_message_writer.specs.declared.pieces.Piece.{Piece};
 ghost use Rattle.dnw_record.specs.DataPieces.{IsData};
 ghost use Rattle.dnw_record.specs.Inside.Copying.{IsNoName};
@@ -133,7 +133,7 @@ pub fn only_piece_of(class: u16, record_type: u16, octets: &[u8]) -> Option<Piec
 /// Returns the piece that data of RRSIG are, in any class (RFC 4034, section 3.1): octets, of which no name is compressed.
 #[inline(always)]
 fn signature(octets: &[u8]) -> Option<Piece<'_>>
-    ensures { IfSome result (λ piece. (class : ℕ) → AreOfData (fields_of class 46 octets.now) octets.now (piece ∷ [])) }
+    ensures { IfSome result (λ piece. (class : ℕ) → AreOfData (fields_of class rrsig_code octets.now) octets.now (piece ∷ [])) }
 {
     if has_signer(octets) {
         return Some(Piece::Octets(octets));

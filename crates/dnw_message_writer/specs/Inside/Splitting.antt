@@ -32,9 +32,17 @@ abbrev pub most_pieces : List Kind → ℕ
 most_pieces [] = 1
 most_pieces (kind ∷ others) = if are_to_compress (kind ∷ others) then 1 + most_pieces others else 1
 
--- After octets of a fixed size, a name begins: that of the signer, in data of RRSIG (RFC 4034, section 3.1).
+-- the code of RRSIG
+abbrev pub rrsig_code : ℕ
+rrsig_code = 46
+
+-- the octets of the data of RRSIG before the name of the signer (RFC 4034, section 3.1)
+abbrev pub before_signer : ℕ
+before_signer = 18
+
+-- After them, a name begins: that of the signer.
 pub record HasSigner (octets : List ℕ) : Type 0 where
-  pub long : 18 ≤ length octets
+  pub long : before_signer ≤ length octets
   pub signer : List (List ℕ)
   pub are : AreLabels signer
-  pub named : slice_range octets 18 (length octets) ≡ wire signer ++ drop (length (wire signer)) (slice_range octets 18 (length octets))
+  pub named : slice_range octets before_signer (length octets) ≡ wire signer ++ drop (length (wire signer)) (slice_range octets before_signer (length octets))
