@@ -76,5 +76,10 @@ int main(void)
     /* a message has its header whatever the maximum is */
     EXPECT(dnw_write_message(whole, sizeof whole - 1, 11, 1) == 12);
     EXPECT(dnw_write_message(whole, 11, 512, 1) == 0);
+    /* two records of the owner a, with 4 and 3 octets of data, and an entry that is none */
+    static const uint8_t zone[] = "$TTL 1\na. A 192.0.2.1 ; an address\n NS b.\n";
+    EXPECT(dnw_read_zone(zone, sizeof zone - 1, 0) == 0);
+    EXPECT(dnw_read_zone(zone, sizeof zone - 1, 2) == 2 * ((3 + 10 + 4) + (3 + 10 + 3)));
+    EXPECT(dnw_read_zone(zone, sizeof zone - 5, 1) == 3 + 10 + 4 + ((uint64_t)1 << 40));
     return 0;
 }

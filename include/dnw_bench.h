@@ -105,6 +105,10 @@ uint64_t dnw_read_fields(const uint8_t *message, size_t len, uint64_t count);
    message cannot be read, the result is 0. */
 uint64_t dnw_write_message(const uint8_t *message, size_t len, uint16_t max_size, uint64_t count);
 
+/* Reads the entries of a zone file below the root: the octets of its records, whose names are not compressed. An entry that is none
+   counts as a failure. */
+uint64_t dnw_read_zone(const uint8_t *text, size_t len, uint64_t count);
+
 #ifdef __cplusplus
 }
 #endif

@@ -23,6 +23,7 @@ use std::hash::{DefaultHasher, Hash, Hasher};
 
 mod bulk;
 mod messages;
+mod zones;
 
 /// What a failure adds.
 const FAILURE: u64 = 1 << 40;
