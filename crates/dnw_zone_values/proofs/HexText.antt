@@ -1,15 +1,12 @@
 -- Hexadecimal, octet by octet.
-use Rattle.std.proofs.Common.{Bool, false, ◌≡◌, ◌≢◌, inl, inr, codes, ◌<◌, ◌≤◌, ◌+◌, ◌-◌, ◌/◌, ◌%◌, ℕ, true, false, List, [], ◌∷◌, ◌++◌, length, take, drop, slice_index, Result, Ok, Err, refl, sym, ap, ◌∙◌, arith, append-nil, length-append, length-drop}
+use Rattle.std.proofs.Common.{Bool, false, ◌≡◌, ◌≢◌, inl, inr, codes, ◌<◌, ◌≤◌, ◌+◌, ◌-◌, ◌/◌, ◌%◌, ℕ, false, List, [], ◌∷◌, ◌++◌, length, take, drop, slice_index, Result, Ok, Err, refl, ap, ◌∙◌, arith, append-nil, length-append, length-drop}
 use borrow.Rule.Slice.PartMut.{post_of}
-use Rattle.std.specs.Prelude.{MatchResult, is_ok}
 use Rattle.std.proofs.lemmas.List.{take_more, take_at, drop_all, length-take-le}
-use Rattle.hex.specs.declared.error.FromHexError.{FromHexError}
-use Rattle.hex.proofs.HexLemmas.{decode_of-even, decode_of-ok}
-use Rattle.hex.proofs.Pairs.{decode_sized-pairs}
+use Rattle.hex.proofs.HexLemmas.{decode_of-ok}
 use Rattle.std.specs.Str.{bytes_eq}
 use Rattle.std.proofs.lemmas.Bool.{both_ways}
 use Rattle.std.proofs.lemmas.Slice.Eq.{bytes_eq-Decides}
-use Rattle.hex.specs.Hex.{encode_with, upper_digits, decode_of, decode_sized}
+use Rattle.hex.specs.Hex.{encode_with, upper_digits}
 use Rattle.dnw_zone_values.specs.Octets.{hex_text, IsHexText, IsSaltText}
 use Rattle.dnw_zone_values.specs.Spelling.{Appends}
 use Rattle.dnw_zone_values.specs.declared.error.FieldTextError.{FieldTextError}
@@ -36,16 +33,6 @@ tail_written a new r l k fits len size =
     let post : post_of l (length a - l) a ≡ [] = drop_all (length a - l) (drop l a) (omega (arith, length-drop l a)) in
     let whole : length (take l a ++ new) ≡ k = omega (arith, length-append (take l a) new, length-take-le l a fits) in
     rw (post, append-nil) (take_at (take l a ++ new) (drop (length (take l a ++ new)) r) k whole)
-
-decoded : (r : Result (List ℕ) FromHexError) (done : Result Unit FromHexError) (out : List ℕ)
-    → MatchResult r (λ bytes. (done ≡ Ok tt) × (out ≡ bytes)) (λ e. done ≡ Err e) → is_ok done ≡ true → r ≡ Ok out
-decoded (Ok bytes) done out given ok = ap Ok (sym given.1)
-decoded (Err e) done out given ok = let no : false ≡ true = sym (ap is_ok given) ∙ ok in cc
-
--- what decoding into as many octets as the text has gives is all that it spells
-pub sized_ok : (text out : List ℕ) (n : ℕ) (done : Result Unit FromHexError) → length text % 2 ≡ 0 → length text / 2 ≡ n
-    → MatchResult (decode_sized text n) (λ bytes. (done ≡ Ok tt) × (out ≡ bytes)) (λ e. done ≡ Err e) → is_ok done ≡ true → decode_of text ≡ Ok out
-sized_ok text out n done even half given ok = decode_of-even text even ∙ sym (decode_sized-pairs text n even half) ∙ decoded _ done out given ok
 
 -- A text that is not `-` is a salt if it is 1 to 255 octets in hexadecimal.
 pub salt_from_hex : (text old new : List ℕ) (r : Result Unit FieldTextError) → text ≢ codes "-" → 1 ≤ length text → length text ≤ 510

@@ -10,6 +10,9 @@ pub mod StringText
 pub mod Tagged
 pub mod Calendar
 pub mod PairsText
+pub mod FourDigits
+pub mod HexFours
+pub mod Base64Fours
 pub mod Groups
 pub mod Identifiers
 pub mod LocationSteps

@@ -11,6 +11,7 @@
 pub mod address;
 pub mod base32;
 pub mod error;
+mod fours;
 mod items;
 mod keys;
 pub mod laws;

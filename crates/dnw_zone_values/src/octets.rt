@@ -1,16 +1,19 @@
 //! Octets in hexadecimal and in base 64 (RFC 4648), and the salts of NSEC3 (RFC 5155).
 //!
 //! Several tokens that make one value are joined before they are parsed.
-ghost use Rattle.std.specs.Prelude.{◌≡◌, ◌<◌, Some, slice_index};
+ghost use Rattle.std.specs.Prelude.{◌≡◌, ℕ, ◌*◌, ◌/◌, ◌<◌, ◌≤◌, true, false, List, ◌++◌, length, take, Some, IfOk, IfErr, slice_index};
 ghost use Rattle.hex.specs.Hex.{upper_digits};
 ghost use Rattle.dnw_zone_values.specs.Spelling.{Appends};
 ghost use Rattle.dnw_zone_values.specs.Octets.{hex_text, base64_text, salt_text, IsHexText, IsBase64Text, IsSaltText};
+ghost use Rattle.dnw_zone_values.specs.Inside.Digits.{BeginsBase64};
 ghost use Rattle.dnw_zone_values.specs.declared.error.FieldTextError.TheVariants.{Hexadecimal as HexWanted, Base64 as Base64Wanted, Salt as SaltWanted};
 
 use crate::error::FieldTextError;
+use crate::fours::{base64_number, hexadecimal_number};
 use base64::DecodeAllocError;
 use base64::display::Base64Display;
 use base64::engine::general_purpose::STANDARD;
+use std::alloc::AllocError;
 use std::{fmt, str};
 
 /// Octets that are printed in hexadecimal, as `49FD46E6` (RFC 4648, section 8).
@@ -94,9 +97,63 @@ pub fn parse_base64(text: &str, octets: &mut Vec<u8>) -> Result<(), FieldTextErr
 pub fn read_base64(text: &[u8], octets: &mut Vec<u8>) -> Result<(), FieldTextError>
     ensures { Appends Base64Wanted IsBase64Text text.now octets.old.items octets.new.items result }
 {
-    if text.is_empty() {
+    let start = octets.len();
+    let left = push_groups(text, octets)?;
+    if left.is_empty() {
         return Ok(());
     }
+    if let Err(error) = push_last(left, octets) {
+        octets.truncate(start);
+        return Err(error);
+    }
+    Ok(())
+}
+
+/// Appends the octets of the groups of four digits that a text in base 64 begins with, and returns what is left of it.
+fn push_groups<'t>(text: &'t [u8], octets: &mut Vec<u8>) -> Result<&'t [u8], AllocError>
+    ensures ok { IfOk result (λ left. (own : List ℕ) × (octets.new.items ≡ octets.old.items ++ own) × BeginsBase64 text.now own left.now) }
+    ensures err { IfErr result (λ e. (1 ≤ length text.now) × (octets.new.items ≡ octets.old.items)) }
+{
+    let start = octets.len();
+    let Some(end) = start.checked_add(text.len() / 4 * 3) else {
+        return Err(AllocError);
+    };
+    octets.resize(end, 0)?;
+    let (len, left) = put_groups(text, &mut octets.as_mut_slice()[start..]);
+    octets.truncate(start + len);
+    Ok(left)
+}
+
+/// Puts the octets of the groups of four digits that a text in base 64 begins with into a room, and returns their number and what is
+/// left of the text.
+#[inline(always)]
+fn put_groups<'t>(text: &'t [u8], room: &mut [u8]) -> (usize, &'t [u8])
+    requires { length room.old ≡ length text.now / 4 * 3 }
+    ensures within { result.0 ≤ length room.old }
+    ensures begins { BeginsBase64 text.now (take result.0 room.new) result.1.now }
+{
+    let mut len = 0;
+    let mut left = text;
+    while let [a, b, c, d, rest @ ..] = left {
+        let Some(number) = base64_number(*a, *b, *c, *d) else {
+            break;
+        };
+        room[len] = (number / 65536) as u8;
+        room[len + 1] = (number / 256 % 256) as u8;
+        room[len + 2] = (number % 256) as u8;
+        len += 3;
+        left = rest;
+    }
+    (len, left)
+}
+
+/// Appends the octets of the last group of a text in base 64, which may have padding.
+// It is not inlined, since the engine is put onto the stack.
+#[inline(never)]
+fn push_last(text: &[u8], octets: &mut Vec<u8>) -> Result<(), FieldTextError>
+    requires { 1 ≤ length text.now }
+    ensures { Appends Base64Wanted IsBase64Text text.now octets.old.items octets.new.items result }
+{
     match STANDARD.decode_vec(text, octets) {
         Ok(()) => Ok(()),
         Err(DecodeAllocError::OutOfMemory) => Err(FieldTextError::Memory),
@@ -142,11 +199,39 @@ pub(crate) fn append_digits(
         return Err(FieldTextError::Memory);
     };
     octets.resize(end, 0)?;
-    if hex::decode_to_slice(text, &mut octets.as_mut_slice()[start..]).is_err() {
+    if !put_digits(text, &mut octets.as_mut_slice()[start..]) {
         octets.truncate(start);
         return Err(wanted);
     }
     Ok(())
+}
+
+/// Puts the octets that hexadecimal digits write into a room. Returns `false` if the characters are something else.
+#[inline(always)]
+fn put_digits(text: &[u8], room: &mut [u8]) -> bool
+    requires { length text.now ≡ 2 * length room.old }
+    ensures yes { result ≡ true → IsHexText text.now room.new }
+    ensures no { result ≡ false → (octets : List ℕ) → ¬ (IsHexText text.now octets) }
+{
+    let mut len = 0;
+    let mut left = text;
+    while let [a, b, c, d, rest @ ..] = left {
+        let Some(number) = hexadecimal_number(*a, *b, *c, *d) else {
+            return false;
+        };
+        room[len] = (number / 256) as u8;
+        room[len + 1] = (number % 256) as u8;
+        len += 2;
+        left = rest;
+    }
+    let [a, b] = left else {
+        return true;
+    };
+    let Some(number) = hexadecimal_number(b'0', b'0', *a, *b) else {
+        return false;
+    };
+    room[len] = number as u8;
+    true
 }
 
 /// Returns the digit of a number below 16.
