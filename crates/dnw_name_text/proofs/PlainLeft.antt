@@ -1,5 +1,5 @@
 -- Texts of plain names, of which the octets that stand for themselves are passed over label by label.
-use Rattle.std.proofs.Common.{◌≡◌, ℕ, ◌+◌, ◌<◌, ◌≤◌, true, false, List, [], ◌∷◌, ◌++◌, inl, inr, length, take, drop, get_or, refl, sym, ap, ◌∙◌, add-zero, append_assoc, arith}
+use Rattle.std.proofs.Common.{◌≡◌, ℕ, ◌+◌, ◌-◌, ◌<◌, ◌≤◌, true, false, List, [], ◌∷◌, ◌++◌, inl, inr, length, take, drop, get_or, refl, sym, ap, ◌∙◌, add-zero, append_assoc, arith}
 use Rattle.std.specs.List.{AllByRecursion, list_all}
 use Rattle.std.proofs.lemmas.Bool.{and_parts, both_ways, cases_order, false≢true}
 use Rattle.std.proofs.lemmas.List.{length-append, length-take-le, get_or-take, get_or_append_left, get_or-append-add, get_or-drop, drop_at, drop-drop, length-drop}
@@ -13,11 +13,11 @@ use Rattle.dnw_name_text.specs.PlainNames.{is_own_octet, is_plain_label, is_plai
 use Rattle.dnw_name_text.specs.Inside.Plain.{plain_text}
 use Rattle.dnw_name_text.proofs.PlainNames.{plain_each, plain_name, plain_name_size}
 
--- The text begins with n octets that stand for themselves, and not one more, unless there are 63.
+-- The text begins with n octets that stand for themselves, and not one more.
 pub record IsOwnRun (text : List ℕ) (n : ℕ) : Type 0 where
   pub few : n ≤ length text
   pub own : list_all is_own_octet (take n text) ≡ true
-  pub most : n < 63 → is_own_octet (get_or text n 0) ≡ false
+  pub most : is_own_octet (get_or text n 0) ≡ false
 
 -- the dot after a plain label ends them
 run_is : (label others : List ℕ) (n : ℕ) → length label ≤ 63 → is_plain_label label ≡ true → IsOwnRun (label ++ dot ∷ others) n → n ≡ length label
@@ -25,7 +25,7 @@ unfolding is_own_octet
 run_is label others n short plain run = elim (cases_order n (length label)) [
   | inl same ↦ same
   | inr (inl less) ↦
-      let not_own = rw (get_or_append_left label (dot ∷ others) 0 n less) at run.most (omega (arith, less, short)) in
+      let not_own = rw (get_or_append_left label (dot ∷ others) 0 n less) at run.most in
       absurd (both_ways _ (list_all_at is_own_octet label n 0 less not_own) plain)
   | inr (inr more) ↦
       let text = label ++ dot ∷ others in
@@ -44,6 +44,7 @@ pub record LeftPlain (rest : List ℕ) : Type 0 where
 -- The first of them, of n octets, and what is left after its dot.
 pub record FirstPlain (rest : List ℕ) (n : ℕ) : Type 0 where
   pub some : 1 ≤ n
+  pub short : n ≤ 63
   pub inside : n < length rest
   pub dotted : get_or rest n 0 ≡ dot
   pub left : LeftPlain (drop (n + 1) rest)
@@ -59,6 +60,7 @@ first_plain_of (label ∷ labels) n each plain some run =
     drop_at (label ++ dot ∷ []) (plain_text labels) (n + 1) (omega (arith, size, length-append label (dot ∷ []))) in
     record {
       some = omega (arith, size, each.0.not_empty);
+      short = omega (arith, size, each.0.not_long);
       inside = omega (arith, size, ap length text, length-append label (dot ∷ plain_text labels));
       dotted =
           ap (λ (t : List ℕ). get_or t n 0) text ∙ ap (λ (i : ℕ). get_or (label ++ dot ∷ plain_text labels) i 0) (size ∙ sym (add-zero (length label)))
@@ -84,13 +86,13 @@ leaves_more text start n leaves lt run = λ labels are plain is.
     let after : drop (n + 1) (drop start text) ≡ drop (start + n + 1) text = drop-drop (n + 1) start text ∙ ap (λ (i : ℕ). drop i text) (omega arith) in
     rw after at first.left
 
--- So a text that has no octet there, or none but its last ones, or anything but a dot after them, is not the text of a plain name.
+-- So a text that has no octet there, or too many, or anything but a dot after them, is not the text of a plain name.
 pub no_label : (text : List ℕ) (start n : ℕ) → LeavesPlain text start → start < length text → IsOwnRun (drop start text) n
-    → (1 ≤ n → start + n < length text → get_or text (start + n) 0 ≡ dot → ⊥)
+    → (1 ≤ n → n ≤ 63 → start + n < length text → get_or text (start + n) 0 ≡ dot → ⊥)
     → (labels : List (List ℕ)) → AreLabels labels → is_plain_name labels ≡ true → text ≡ full_name_text labels → ⊥
 no_label text start n leaves lt run never labels are plain is =
     let first = first_plain _ n (leaves labels are plain is) (omega (arith, lt, length-drop start text)) run in
-    never first.some (omega (arith, first.inside, length-drop start text)) (sym (get_or-drop start text n 0) ∙ first.dotted)
+    never first.some first.short (omega (arith, first.inside, length-drop start text)) (sym (get_or-drop start text n 0) ∙ first.dotted)
 
 -- it has two octets or more, and 254 at most
 pub plain_bounds : (labels : List (List ℕ)) → AreLabels labels → is_plain_name labels ≡ true → (1 ≤ length (full_name_text labels)) × (length (full_name_text labels) < 255)
@@ -100,3 +102,24 @@ plain_bounds (label ∷ labels) are plain =
     let whole = length_wire (label ∷ labels) in
     let parts = length-append (label_wire label ++ labels_wire labels) (0 ∷ []) in
     (omega (arith, size, parts, length-append (label_wire label) (labels_wire labels)), omega (arith, size, whole, are.fit))
+
+-- and a dot at its end
+last_dot : (labels : List (List ℕ)) → 1 ≤ length (plain_text labels) → get_or (plain_text labels) (length (plain_text labels) - 1) 0 ≡ dot
+last_dot [] some = absurd (omega (arith, some))
+last_dot (label ∷ []) some =
+    let text = label ++ dot ∷ [] in
+    let size = length-append label (dot ∷ []) in
+    let end : length (text ++ []) - 1 ≡ length label + 0 = omega (arith, size, length-append text []) in
+    rw (end, append_assoc label (dot ∷ []) []) (get_or-append-add label (dot ∷ []) 0 0)
+last_dot (label ∷ next ∷ labels) some =
+    let first = label ++ dot ∷ [] in
+    let others = plain_text (next ∷ labels) in
+    let one : 1 ≤ length others = omega (arith, length-append (next ++ dot ∷ []) (plain_text labels), length-append next (dot ∷ [])) in
+    let end : length (first ++ others) - 1 ≡ length first + (length others - 1) = omega (arith, length-append first others, one) in
+    rw end (get_or-append-add first others (length others - 1) 0) ∙ last_dot (next ∷ labels) one
+
+pub plain_last : (text : List ℕ) (labels : List (List ℕ)) → AreLabels labels → is_plain_name labels ≡ true → text ≡ full_name_text labels → get_or text (length text - 1) 0 ≡ dot
+plain_last text labels are plain is =
+    let some = (plain_bounds labels are plain).0 in
+    let same = is ∙ plain_name labels plain in
+    rw same (last_dot labels (omega (arith, some, ap length is, ap length same)))

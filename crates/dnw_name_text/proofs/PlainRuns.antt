@@ -1,9 +1,9 @@
 -- Labels of octets that stand for themselves.
-use Rattle.std.proofs.Common.{◌≡◌, ℕ, zero, suc, ◌+◌, ◌<◌, ◌≤◌, true, false, List, ◌==◌, length, take, get_or, refl, sym, ap, ◌∙◌, add-one, add-zero, arith}
+use Rattle.std.proofs.Common.{◌≡◌, ℕ, zero, suc, ◌+◌, ◌-◌, ◌<◌, ◌≤◌, true, false, inl, inr, List, ◌==◌, length, take, drop, get_or, refl, sym, ap, ◌∙◌, add-one, add-zero, arith}
 use Rattle.std.specs.List.{list_all}
-use Rattle.std.proofs.lemmas.Bool.{and_parts, lt-ltb}
+use Rattle.std.proofs.lemmas.Bool.{and_parts, both_ways, cases_lt, lt-ltb}
 use Rattle.std.proofs.lemmas.List.Folds.{list_all_at, list_all_more}
-use Rattle.std.proofs.lemmas.List.{length-take-le, get_or_past, take_all, take_more, drop_more}
+use Rattle.std.proofs.lemmas.List.{length-drop, length-take-le, get_or-drop, get_or_past, take_all, take_more, drop_more}
 use Rattle.dnw_name_text.specs.Inside.Labels.{BeginsPlain}
 use Rattle.dnw_name_text.specs.PlainNames.{is_own_octet}
 
@@ -20,10 +20,28 @@ pub own_past : (text : List ℕ) (n : ℕ) → length text ≤ n → is_own_octe
 unfolding is_own_octet
 own_past text n past = rw (get_or_past text n 0 past) refl
 
+-- the last octet that is left is the last one
+pub last_left : (text : List ℕ) (start : ℕ) → start < length text → get_or text (length text - 1) 0 ≡ 46
+    → is_own_octet (get_or (drop start text) (length (drop start text) - 1) 0) ≡ false
+unfolding is_own_octet
+last_left text start lt last =
+    let end : start + (length (drop start text) - 1) ≡ length text - 1 = omega (arith, length-drop start text) in
+    rw (get_or-drop start text (length (drop start text) - 1) 0, end, last) refl
+
 -- one more
 pub own_more : (text : List ℕ) (n m : ℕ) → m ≡ n + 1 → n < length text → is_own_octet (get_or text n 0) ≡ true
     → list_all is_own_octet (take n text) ≡ true → list_all is_own_octet (take m text) ≡ true
 own_more text n m next lt own all = rw (next, list_all_more is_own_octet text n 0 lt, all, own) refl
+
+-- after one of these is another octet, if the last one is none of these
+pub own_inside : (text : List ℕ) (n m : ℕ) → m ≡ n + 1 → n < length text → is_own_octet (get_or text n 0) ≡ true → is_own_octet (get_or text (length text - 1) 0) ≡ false
+    → m < length text
+own_inside text n m next lt own last = elim (cases_lt m (length text)) [
+  | inl inside ↦ inside
+  | inr past ↦
+      let end : length text - 1 ≡ n = omega (arith, next, lt, past) in
+      absurd (both_ways _ (ap (λ (i : ℕ). is_own_octet (get_or text i 0)) (sym end) ∙ last) own)
+]
 
 -- all are if those up to the end are, or none is left but the last one; not if one is not
 pub own_all : (text : List ℕ) (n : ℕ) → length text ≤ n → list_all is_own_octet (take n text) ≡ true → list_all is_own_octet text ≡ true

@@ -1,5 +1,5 @@
 //! Octets that stand for themselves in the text of a name.
-ghost use Rattle.std.specs.Prelude.{◌≡◌, ◌<◌, ◌≤◌, get_or, length, take, false, true};
+ghost use Rattle.std.specs.Prelude.{◌≡◌, ◌-◌, ◌<◌, ◌≤◌, get_or, length, take, false, true};
 ghost use Rattle.std.specs.List.{list_all};
 ghost use Rattle.dnw_base.specs.Limits.{max_label};
 ghost use Rattle.dnw_name_text.specs.PlainNames.{is_own_octet, is_plain_label};
@@ -111,4 +111,34 @@ pub(crate) fn own_len(text: &[u8]) -> usize
         len += 1;
     }
     len
+}
+
+/// Returns the number of octets that stand for themselves that a text begins with. The last octet is another one, so that the end is not
+/// tested.
+#[inline(always)]
+#[tactic(auto, using(crate::proofs::PlainRuns::own_more, crate::proofs::PlainRuns::own_inside))]
+pub(crate) fn own_run_len(text: &[u8]) -> usize
+    requires some { 1 ≤ length text.now }
+    requires last { is_own_octet (get_or text.now (length text.now - 1) 0) ≡ false }
+    ensures few { result < length text.now }
+    ensures own { list_all is_own_octet (take result text.now) ≡ true }
+    ensures most { is_own_octet (get_or text.now result 0) ≡ false }
+{
+    let mut len = 0;
+    // Four octets a round take less than one.
+    'fours: loop {
+        if !is_own(text[len]) {
+            return len;
+        }
+        if !is_own(text[len + 1]) {
+            return len + 1;
+        }
+        if !is_own(text[len + 2]) {
+            return len + 2;
+        }
+        if !is_own(text[len + 3]) {
+            return len + 3;
+        }
+        len += 4;
+    }
 }

@@ -13,7 +13,7 @@ ghost use Rattle.dnw_name_text.specs.NameReading.{element, ended, labels_from, l
 
 use crate::ascii::Parsed;
 use crate::error::{NameTextError, NameTextRule};
-use crate::plain::own_len;
+use crate::plain::{own_len, own_run_len};
 use arrayvec::ArrayVec;
 use dnw_base::limits::{MAX_LABEL, MAX_NAME};
 use dnw_name_form::form::WireForm;
@@ -103,16 +103,19 @@ pub fn put_plain_form(room: &mut [u8; MAX_NAME], text: &[u8]) -> Option<usize>
         × ((origin : Option (List (List ℕ))) → name_of_text origin text.now ≡ Ok (record { is_fqdn = true; labels = labels }))) }
     ensures none { IfNone result ((labels : List (List ℕ)) → AreLabels labels → IsTrue (is_plain_name labels) → text.now ≡ full_name_text labels → ⊥) }
 {
-    if text.is_empty() || text.len() >= MAX_NAME {
+    let [.., last] = text else {
+        return None;
+    };
+    if *last != b'.' || text.len() >= MAX_NAME {
         return None;
     }
     put_after_first(room, text);
     let mut start = 0;
     'labels: while start < text.len() {
         let (_, rest) = text.split_at(start);
-        let len = plain_len(rest);
+        let len = own_run_len(rest);
         let end = start + len;
-        if len == 0 || end == text.len() || text[end] != b'.' {
+        if len == 0 || len > MAX_LABEL || text[end] != b'.' {
             return None;
         }
         room[start] = len as u8;
