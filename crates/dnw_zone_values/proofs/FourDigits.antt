@@ -1,5 +1,5 @@
 -- Four digits at once: a sum of numbers in the tables of their places.
-use Rattle.std.proofs.Common.{◌≡◌, ℕ, ◌+◌, ◌*◌, ◌<◌, ◌≤◌, ◌-◌, ◌==◌, ◌&&◌, Bool, List, ◌∷◌, take, drop, sym, map, get_or, [], length, slice_index, true, inl, inr, refl, ap, ◌∙◌, arith}
+use Rattle.std.proofs.Common.{◌≡◌, ℕ, ◌+◌, ◌*◌, ◌<◌, ◌≤◌, ◌-◌, ◌==◌, ◌&&◌, Bool, List, ◌∷◌, take, drop, sym, map, get_or, [], length, slice_index, true, false, inl, inr, refl, ap, ◌∙◌, arith}
 use Rattle.std.specs.Prelude.{Option, Some, None, IfSome, nat_lt, nat_le, if◌then◌else◌}
 use Rattle.std.specs.List.{list_all, range_with_len}
 use Rattle.std.proofs.lemmas.Bool.{and_parts, cases_lt, eqb-true, le-ltb, leb-true, lt-ltb}
@@ -8,7 +8,15 @@ use Rattle.std.proofs.lemmas.List.Sums.{AllPass-from_list_all}
 use Rattle.std.proofs.lemmas.List.FromFn.{get_or-map-range_with_len}
 use Rattle.hex.specs.Hex.{hex_digit_value}
 use Rattle.base64.specs.Engines.{standard}
-use Rattle.dnw_zone_values.specs.Inside.Digits.{base64_digit_value, in_place, number_of_four}
+use Rattle.dnw_zone_values.specs.Base32.{base32_value, is_base32}
+use Rattle.dnw_zone_values.specs.Inside.Digits.{base32_digit_value, base64_digit_value, in_place, number_of_four}
+
+pub value_below : (c : ℕ) → base32_value c < 32
+value_below c = grind arith
+
+below_if : (b : Bool) (n : ℕ) → n < 32 → IfSome (if b then Some n else None) (λ n. n < 32)
+below_if true n lt = lt
+below_if false n lt = tt
 
 below_test : (n : ℕ) → IfSome (if nat_lt n 64 then Some n else None) (λ n. n < 64)
 below_test n = elim (cases_lt n 64) [
@@ -35,6 +43,9 @@ most_in_table tables k c all inside lt =
 
 pub hexadecimal_below : (c : ℕ) → IfSome (hex_digit_value c) (λ n. n < 16)
 hexadecimal_below c = grind arith
+
+pub base32_below : (c : ℕ) → IfSome (base32_digit_value c) (λ n. n < 32)
+base32_below c = below_if (is_base32 c) (base32_value c) (value_below c)
 
 pub base64_below : (c : ℕ) → IfSome (base64_digit_value c) (λ n. n < 64)
 base64_below c = below_test (slice_index standard.decode_table c)

@@ -42,20 +42,18 @@ five (a ∷ b ∷ c ∷ d ∷ e ∷ xs) few = refl
 abbrev pub of_eight : (a b c d e f g h : ℕ) → List ℕ
 of_eight a b c d e f g h = base32_first a b ∷ base32_second b c d ∷ base32_third d e ∷ base32_fourth e f g ∷ base32_fifth g h ∷ []
 
-abbrev pub at : List ℕ → ℕ → ℕ
-at xs i = base32_value (get_or xs i 0)
-
-pub eight : (xs : List ℕ) → 8 ≤ length xs
-    → base32_octets (map base32_value xs) ≡ after (of_eight (at xs 0) (at xs 1) (at xs 2) (at xs 3) (at xs 4) (at xs 5) (at xs 6) (at xs 7)) (base32_octets (map base32_value (drop 8 xs)))
-eight [] few = absurd (omega arith)
-eight (a ∷ []) few = absurd (omega arith)
-eight (a ∷ b ∷ []) few = absurd (omega arith)
-eight (a ∷ b ∷ c ∷ []) few = absurd (omega arith)
-eight (a ∷ b ∷ c ∷ d ∷ []) few = absurd (omega arith)
-eight (a ∷ b ∷ c ∷ d ∷ e ∷ []) few = absurd (omega arith)
-eight (a ∷ b ∷ c ∷ d ∷ e ∷ f ∷ []) few = absurd (omega arith)
-eight (a ∷ b ∷ c ∷ d ∷ e ∷ f ∷ g ∷ []) few = absurd (omega arith)
-eight (a ∷ b ∷ c ∷ d ∷ e ∷ f ∷ g ∷ h ∷ xs) few = refl
+-- a slice that begins with eight
+pub eight_parts : (xs : List ℕ) (n : ℕ) → 8 ≤ length xs → n ≡ length xs - 8
+    → xs ≡ get_or xs 0 0 ∷ get_or xs 1 0 ∷ get_or xs 2 0 ∷ get_or xs 3 0 ∷ get_or xs 4 0 ∷ get_or xs 5 0 ∷ get_or xs 6 0 ∷ get_or xs 7 0 ∷ take n (drop 8 xs)
+eight_parts [] n few is = absurd (omega arith)
+eight_parts (a ∷ []) n few is = absurd (omega arith)
+eight_parts (a ∷ b ∷ []) n few is = absurd (omega arith)
+eight_parts (a ∷ b ∷ c ∷ []) n few is = absurd (omega arith)
+eight_parts (a ∷ b ∷ c ∷ d ∷ []) n few is = absurd (omega arith)
+eight_parts (a ∷ b ∷ c ∷ d ∷ e ∷ []) n few is = absurd (omega arith)
+eight_parts (a ∷ b ∷ c ∷ d ∷ e ∷ f ∷ []) n few is = absurd (omega arith)
+eight_parts (a ∷ b ∷ c ∷ d ∷ e ∷ f ∷ g ∷ []) n few is = absurd (omega arith)
+eight_parts (a ∷ b ∷ c ∷ d ∷ e ∷ f ∷ g ∷ h ∷ xs) n few is = ap (λ (ys : List ℕ). a ∷ b ∷ c ∷ d ∷ e ∷ f ∷ g ∷ h ∷ ys) (sym (take_all n xs (omega (arith, is))))
 
 pub pair_more : (text xs found : List ℕ) (o n : ℕ) → 3 ≤ length xs → n ≡ length xs - 3 → pairs_octets text ≡ after found (pairs_octets xs)
     → pair_octet (get_or xs 0 0) (get_or xs 1 0) ≡ Some o → get_or xs 2 0 ≡ hyphen
@@ -63,15 +61,6 @@ pub pair_more : (text xs found : List ℕ) (o n : ℕ) → 3 ≤ length xs → n
 pair_more text xs found o n few size so_far octet is =
     let here : pairs_octets xs ≡ with_front (Some o) (pairs_octets (drop 3 xs)) = (pair xs few).0 is ∙ ap (λ (x : Option ℕ). with_front x (pairs_octets (drop 3 xs))) octet in
     so_far ∙ ap (after found) here ∙ after_all found (o ∷ []) (pairs_octets (drop 3 xs)) ∙ ap (λ (ys : List ℕ). after (found ++ o ∷ []) (pairs_octets ys)) (sym (rest 3 n xs size))
-
-pub eight_more : (text xs found own : List ℕ) (n : ℕ) → 8 ≤ length xs → n ≡ length xs - 8
-    → base32_octets (map base32_value text) ≡ after found (base32_octets (map base32_value xs))
-    → own ≡ of_eight (at xs 0) (at xs 1) (at xs 2) (at xs 3) (at xs 4) (at xs 5) (at xs 6) (at xs 7)
-    → base32_octets (map base32_value text) ≡ after (found ++ own) (base32_octets (map base32_value (take n (drop 8 xs))))
-eight_more text xs found own n few size so_far is =
-    let left = base32_octets (map base32_value (drop 8 xs)) in
-    so_far ∙ ap (after found) (eight xs few) ∙ ap (λ (ys : List ℕ). after found (after ys left)) (sym is) ∙ after_all found own left
-    ∙ ap (λ (ys : List ℕ). after (found ++ own) (base32_octets (map base32_value ys))) (sym (rest 8 n xs size))
 
 pub five_more : (done xs whole digits : List ℕ) (n : ℕ) → 5 ≤ length xs → n ≡ length xs - 5 → done ++ base32_text xs ≡ whole
     → digits ≡ base32_five (get_or xs 0 0) (get_or xs 1 0) (get_or xs 2 0) (get_or xs 3 0) (get_or xs 4 0)

@@ -13,6 +13,7 @@ pub mod PairsText
 pub mod FourDigits
 pub mod HexFours
 pub mod Base64Fours
+pub mod Base32Fours
 pub mod Groups
 pub mod Identifiers
 pub mod LocationSteps

@@ -5,10 +5,12 @@ ghost use Rattle.std.specs.List.{AllPass};
 ghost use Rattle.std.specs.Fmt.{WritesOnOk};
 ghost use Rattle.dnw_zone_values.specs.Spelling.{Appends};
 ghost use Rattle.dnw_zone_values.specs.Base32.{base32_digit, base32_five, base32_text, base32_value, is_base32, base32_octets, if_zero, IsHashText};
+ghost use Rattle.dnw_zone_values.specs.Inside.Digits.{digits_octets};
 ghost use Rattle.dnw_zone_values.specs.Inside.Takes.{KeepsFront, PushesAll};
 ghost use Rattle.dnw_zone_values.specs.declared.error.FieldTextError.TheVariants.{Hash as HashWanted};
 
 use crate::error::FieldTextError;
+use crate::fours::base32_number;
 use crate::string::write_ascii;
 use std::alloc::AllocError;
 use std::fmt;
@@ -129,9 +131,6 @@ pub fn parse_hash(text: &str, octets: &mut Vec<u8>) -> Result<(), FieldTextError
 pub fn read_hash(digits: &[u8], octets: &mut Vec<u8>) -> Result<(), FieldTextError>
     ensures { Appends HashWanted IsHashText digits.now octets.old.items octets.new.items result }
 {
-    if !is_base32(digits) {
-        return Err(FieldTextError::Hash);
-    }
     let start = octets.len();
     match push_base32(digits, octets) {
         Ok(whole) => {
@@ -176,23 +175,30 @@ fn is_digit(c: u8) -> bool
     matches!(c, b'0'..=b'9' | b'A'..=b'V' | b'a'..=b'v')
 }
 
-/// Appends the octets of digits. Returns `false` if there are none; some may be appended then.
-fn push_base32(digits: &[u8], octets: &mut Vec<u8>) -> Result<bool, AllocError>
-    ensures ok { IfOk result (PushesAll (base32_octets (map base32_value digits.now)) octets.old.items octets.new.items) }
-    ensures err { IfErr result (λ _. (1 ≤ length digits.now) × KeepsFront octets.old.items octets.new.items) }
+/// Appends the octets of a text in base 32. Returns `false` if it has none; some may be appended then.
+fn push_base32(text: &[u8], octets: &mut Vec<u8>) -> Result<bool, AllocError>
+    ensures ok { IfOk result (PushesAll (digits_octets text.now) octets.old.items octets.new.items) }
+    ensures err { IfErr result (λ _. (1 ≤ length text.now) × KeepsFront octets.old.items octets.new.items) }
 {
-    let mut left = digits;
+    let mut left = text;
     while let [a, b, c, d, e, f, g, h, rest @ ..] = left {
-        let (a, b, c, d) = (value(*a), value(*b), value(*c), value(*d));
-        let (e, f, g, h) = (value(*e), value(*f), value(*g), value(*h));
+        let Some(first) = base32_number(*a, *b, *c, *d) else {
+            return Ok(false);
+        };
+        let Some(last) = base32_number(*e, *f, *g, *h) else {
+            return Ok(false);
+        };
         octets.extend_from_slice(&[
-            a * 8 + b / 4,
-            b % 4 * 64 + c * 2 + d / 16,
-            d % 16 * 16 + e / 2,
-            e % 2 * 128 + f * 4 + g / 8,
-            g % 8 * 32 + h,
+            (first / 4096) as u8,
+            (first / 16 % 256) as u8,
+            (first % 16 * 16 + last / 65536) as u8,
+            (last / 256 % 256) as u8,
+            (last % 256) as u8,
         ])?;
         left = rest;
+    }
+    if !is_base32(left) {
+        return Ok(false);
     }
     push_last(left, octets)
 }

@@ -1,10 +1,10 @@
-//! Numbers of four digits of a text at once, in hexadecimal and in base 64 (RFC 4648).
+//! Numbers of four digits of a text at once, in hexadecimal, in base 32 and in base 64 (RFC 4648).
 //!
 //! A digit has its number in the table of its place, and what is no digit has a number there that four digits do not make. So one sum
 //! gives the number of all four, and shows whether they are digits.
 ghost use Rattle.std.specs.Prelude.{◌≡◌, ◌<◌, ◌≤◌, nat_lt, if◌then◌else◌, slice_index};
 ghost use Rattle.hex.specs.Hex.{hex_digit_value};
-ghost use Rattle.dnw_zone_values.specs.Inside.Digits.{base64_digit_value, base64_places, hexadecimal_places, in_place, number_of_four};
+ghost use Rattle.dnw_zone_values.specs.Inside.Digits.{base32_digit_value, base32_places, base64_digit_value, base64_places, hexadecimal_places, in_place, number_of_four};
 
 /// The number of what is no digit.
 const N: u32 = 1 << 24;
@@ -27,6 +27,45 @@ macro_rules! hexadecimal {
             N, 10 << $at, 11 << $at, 12 << $at, 13 << $at, 14 << $at, 15 << $at, N,
             N, N, N, N, N, N, N, N,
             N, N, N, N, N, N, N, N,
+            N, N, N, N, N, N, N, N,
+            N, N, N, N, N, N, N, N,
+            N, N, N, N, N, N, N, N,
+            N, N, N, N, N, N, N, N,
+            N, N, N, N, N, N, N, N,
+            N, N, N, N, N, N, N, N,
+            N, N, N, N, N, N, N, N,
+            N, N, N, N, N, N, N, N,
+            N, N, N, N, N, N, N, N,
+            N, N, N, N, N, N, N, N,
+            N, N, N, N, N, N, N, N,
+            N, N, N, N, N, N, N, N,
+            N, N, N, N, N, N, N, N,
+            N, N, N, N, N, N, N, N,
+            N, N, N, N, N, N, N, N,
+            N, N, N, N, N, N, N, N,
+            N, N, N, N, N, N, N, N,
+        ]
+    };
+}
+
+macro_rules! base32 {
+    ($at:expr) => {
+        [
+            N, N, N, N, N, N, N, N,
+            N, N, N, N, N, N, N, N,
+            N, N, N, N, N, N, N, N,
+            N, N, N, N, N, N, N, N,
+            N, N, N, N, N, N, N, N,
+            N, N, N, N, N, N, N, N,
+            0 << $at, 1 << $at, 2 << $at, 3 << $at, 4 << $at, 5 << $at, 6 << $at, 7 << $at,
+            8 << $at, 9 << $at, N, N, N, N, N, N,
+            N, 10 << $at, 11 << $at, 12 << $at, 13 << $at, 14 << $at, 15 << $at, 16 << $at,
+            17 << $at, 18 << $at, 19 << $at, 20 << $at, 21 << $at, 22 << $at, 23 << $at, 24 << $at,
+            25 << $at, 26 << $at, 27 << $at, 28 << $at, 29 << $at, 30 << $at, 31 << $at, N,
+            N, N, N, N, N, N, N, N,
+            N, 10 << $at, 11 << $at, 12 << $at, 13 << $at, 14 << $at, 15 << $at, 16 << $at,
+            17 << $at, 18 << $at, 19 << $at, 20 << $at, 21 << $at, 22 << $at, 23 << $at, 24 << $at,
+            25 << $at, 26 << $at, 27 << $at, 28 << $at, 29 << $at, 30 << $at, 31 << $at, N,
             N, N, N, N, N, N, N, N,
             N, N, N, N, N, N, N, N,
             N, N, N, N, N, N, N, N,
@@ -94,6 +133,8 @@ static HEXADECIMAL: [[u32; 256]; 4] = [
     hexadecimal!(0),
 ];
 
+static BASE32: [[u32; 256]; 4] = [base32!(15), base32!(10), base32!(5), base32!(0)];
+
 static BASE64: [[u32; 256]; 4] = [base64!(18), base64!(12), base64!(6), base64!(0)];
 
 /// Returns the number of four hexadecimal digits, if each is one.
@@ -102,6 +143,14 @@ pub(crate) fn hexadecimal_number(a: u8, b: u8, c: u8, d: u8) -> Option<u32>
     ensures { result ≡ number_of_four 4096 256 16 (hex_digit_value a) (hex_digit_value b) (hex_digit_value c) (hex_digit_value d) }
 {
     number_of(hexadecimal(0, a) + hexadecimal(1, b) + hexadecimal(2, c) + hexadecimal(3, d))
+}
+
+/// Returns the number of four digits of base 32 with the extended hex alphabet, if each is one.
+#[inline(always)]
+pub(crate) fn base32_number(a: u8, b: u8, c: u8, d: u8) -> Option<u32>
+    ensures { result ≡ number_of_four 32768 1024 32 (base32_digit_value a) (base32_digit_value b) (base32_digit_value c) (base32_digit_value d) }
+{
+    number_of(base32(0, a) + base32(1, b) + base32(2, c) + base32(3, d))
 }
 
 /// Returns the number of four digits of base 64, if each is one.
@@ -120,6 +169,16 @@ fn hexadecimal(place: usize, c: u8) -> u32
     ensures most { result ≤ 16777216 }
 {
     HEXADECIMAL[place][c as usize]
+}
+
+/// Returns the number of a digit of base 32 in one of four places, or `N` if it is none.
+#[inline(always)]
+fn base32(place: usize, c: u8) -> u32
+    requires { place < 4 }
+    ensures is { result ≡ in_place (slice_index base32_places place) (base32_digit_value c) }
+    ensures most { result ≤ 16777216 }
+{
+    BASE32[place][c as usize]
 }
 
 /// Returns the number of a digit of base 64 in one of four places, or `N` if it is none.

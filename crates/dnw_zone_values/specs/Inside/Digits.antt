@@ -1,7 +1,17 @@
 -- Digits of a text, four at a time.
-use Rattle.std.specs.Prelude.{◌≤◌, length, ℕ, ◌+◌, ◌*◌, nat_lt, if◌then◌else◌, List, [], ◌∷◌, ◌++◌, Option, Some, None, slice_index}
+use Rattle.std.specs.Prelude.{◌≤◌, length, map, ℕ, ◌+◌, ◌*◌, nat_lt, if◌then◌else◌, List, [], ◌∷◌, ◌++◌, Option, Some, None, slice_index}
+use Rattle.std.specs.List.{list_all}
 use Rattle.base64.specs.Engines.{standard}
+use Rattle.dnw_zone_values.specs.Base32.{base32_octets, base32_value, is_base32}
 use Rattle.dnw_zone_values.specs.Octets.{IsBase64Text}
+
+-- the number of a digit of base 32
+abbrev pub base32_digit_value : ℕ → Option ℕ
+base32_digit_value c = if is_base32 c then Some (base32_value c) else None
+
+-- the octets of a text in base 32, if each character is a digit
+abbrev pub digits_octets : List ℕ → Option (List ℕ)
+digits_octets text = if list_all is_base32 text then base32_octets (map base32_value text) else None
 
 -- the number of a digit of base 64
 abbrev pub base64_digit_value : ℕ → Option ℕ
@@ -11,6 +21,9 @@ base64_digit_value c =
 -- the places of four digits
 abbrev pub hexadecimal_places : List ℕ
 hexadecimal_places = 4096 ∷ 256 ∷ 16 ∷ 1 ∷ []
+
+abbrev pub base32_places : List ℕ
+base32_places = 32768 ∷ 1024 ∷ 32 ∷ 1 ∷ []
 
 abbrev pub base64_places : List ℕ
 base64_places = 262144 ∷ 4096 ∷ 64 ∷ 1 ∷ []
