@@ -1,12 +1,14 @@
 -- Strings, octet by octet.
-use Rattle.std.proofs.Common.{◌≡◌, ◌≢◌, ◌⊎◌, take, drop, ℕ, suc, ◌*◌, ◌/◌, ◌%◌, inl, inr, ◌+◌, ◌-◌, ◌≤◌, ◌<◌, Bool, true, false, ◌==◌, ◌&&◌, List, [], ◌∷◌, ◌++◌, length, Option, Some, None, refl, sym, ap, ◌∙◌, arith, append_assoc, append-nil, length-append}
+use Rattle.std.proofs.Common.{◌≡◌, ◌≢◌, ◌⊎◌, take, drop, get_or, ℕ, zero, suc, ◌*◌, ◌/◌, ◌%◌, inl, inr, ◌+◌, ◌-◌, ◌≤◌, ◌<◌, Bool, true, false, ◌==◌, ◌&&◌, List, [], ◌∷◌, ◌++◌, length, Option, Some, None, refl, sym, ap, ◌∙◌, arith, append_assoc, append-nil, length-append}
 use Rattle.dnw_zone_values.specs.Strings.{quote, backslash, Plain, at_end, octets_from, with_octet, octet_text, string_text, IsString, IsText, IsStringText, IsLongText}
 use Rattle.std.specs.Prelude.{flat_map, nat_le, not}
 use Rattle.std.specs.Char.{is_ascii_digit}
-use Rattle.std.proofs.lemmas.Bool.{cases_eq, cases_Bool, ne_eqb, lt-ltb}
+use Rattle.std.specs.Option.{unwrap_or}
+use Rattle.std.proofs.lemmas.Bool.{cases_eq, cases_Bool, false_from_ne_true, ne_eqb, lt-ltb}
+use Rattle.memchr.specs.Find.{IsFirstByte, is_byte2}
 use Rattle.dnw_zone_values.specs.Octets.{IsOctets}
 use Rattle.dnw_zone_values.specs.Spelling.{ComesBack}
-use Rattle.dnw_zone_values.specs.Inside.Takes.{after, octets_at, string_run_len, IsNoText, Pushes}
+use Rattle.dnw_zone_values.specs.Inside.Takes.{after, octets_at, is_string_mark, string_run_len, IsNoText, Pushes}
 
 -- one octet more
 pub after_more : (found : List ℕ) (o : ℕ) (octets : Option (List ℕ)) → after found (with_octet o octets) ≡ after (found ++ o ∷ []) octets
@@ -46,6 +48,19 @@ too_long found (Some own) max many = omega (arith, length-append found own)
 pub too_many : (found : List ℕ) (o : ℕ) (octets : Option (List ℕ)) → (max : ℕ) → max ≤ length found → IsNoText max (after found (with_octet o octets))
 too_many found o None max full = tt
 too_many found o (Some own) max full = omega (arith, length-append found (o ∷ own))
+
+-- so many octets are before the first one of these, or before the end
+run_is : (text : List ℕ) (k : ℕ) → k ≤ length text → ((i : ℕ) → i < k → ¬ (is_string_mark (get_or text i 0) ≡ true)) → (k < length text → is_string_mark (get_or text k 0) ≡ true)
+    → string_run_len text ≡ k
+run_is [] k few none here = omega (arith, few)
+run_is (c ∷ cs) zero few none here = rw (here (omega arith)) refl
+run_is (c ∷ cs) (suc k) few none here =
+    let first : is_string_mark c ≡ false = false_from_ne_true (is_string_mark c) (none 0 (omega arith)) in
+    rw first (ap suc (run_is cs k (omega (arith, few)) (λ i lt. none (suc i) (omega (arith, lt))) (λ lt. here (omega (arith, lt)))))
+
+pub run_first : (text : List ℕ) (r : Option ℕ) → IsFirstByte (is_byte2 quote backslash) text r → (string_run_len text ≡ unwrap_or r (length text)) × (unwrap_or r (length text) ≤ length text)
+run_first text None none = (run_is text (length text) (omega arith) (λ i lt. none i (omega arith) lt) (λ lt. absurd (omega (arith, lt))), omega arith)
+run_first text (Some k) first = (run_is text k (omega (arith, first.0.high)) (λ i lt. first.0.before i (omega arith) lt) (λ lt. first.1), omega (arith, first.0.high))
 
 -- octets that stand for themselves
 pub plain_run : (quoted : Bool) (text : List ℕ)

@@ -4,10 +4,11 @@ ghost use Rattle.std.specs.Char.{is_ascii_digit};
 ghost use Rattle.std.specs.Fmt.{WritesOnOk};
 ghost use Rattle.dnw_zone_values.specs.Spelling.{Appends};
 ghost use Rattle.dnw_zone_values.specs.Strings.{quote, Plain, escape_text, octet_text, string_text, octets_from, with_octet, string_octets, IsTextWithin, IsStringText, IsLongText};
-ghost use Rattle.dnw_zone_values.specs.Inside.Takes.{octets_at, decimal_octet, is_string_mark, string_run_len, KeepsFront, Pushes};
+ghost use Rattle.dnw_zone_values.specs.Inside.Takes.{octets_at, decimal_octet, string_run_len, KeepsFront, Pushes};
 ghost use Rattle.dnw_zone_values.specs.declared.error.FieldTextError.TheVariants.{CharacterString as StringWanted, Text as TextWanted};
 
 use crate::error::FieldTextError;
+use memchr::memchr2;
 use std::alloc::AllocError;
 use std::{fmt, str};
 
@@ -174,21 +175,7 @@ fn string_run_len(text: &[u8]) -> usize
     ensures is { result ≡ string_run_len text.now }
     ensures within { result ≤ length text.now }
 {
-    let mut left = text;
-    while let Some((first, rest)) = left.split_first() {
-        if is_string_mark(*first) {
-            return text.len() - left.len();
-        }
-        left = rest;
-    }
-    text.len()
-}
-
-/// Returns `true` for a quote and a backslash.
-fn is_string_mark(c: u8) -> bool
-    ensures { result ≡ is_string_mark c }
-{
-    c == b'"' || c == b'\\'
+    memchr2(b'"', b'\\', text).unwrap_or(text.len())
 }
 
 /// Returns `true` if a character is the quote that ends a quoted text.
