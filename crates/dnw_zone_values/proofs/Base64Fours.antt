@@ -56,6 +56,53 @@ three_more : (x y z : ℕ) (xs : List ℕ) → encode_of standard (x ∷ y ∷ z
 unfolding encode_symbols
 three_more x y z xs = encode_of-append standard (x ∷ y ∷ z ∷ []) xs refl
 
+encoded_one : (x : ℕ) → encode_of standard (x ∷ []) ≡ slice_index standard.encode_table (x / 4) ∷ slice_index standard.encode_table (x % 4 * 16) ∷ 61 ∷ 61 ∷ []
+unfolding encode_symbols
+encoded_one x = refl
+
+encoded_two : (x y : ℕ) → encode_of standard (x ∷ y ∷ [])
+    ≡ slice_index standard.encode_table (x / 4) ∷ slice_index standard.encode_table (x % 4 * 16 + y / 16) ∷ slice_index standard.encode_table (y % 16 * 4) ∷ 61 ∷ []
+unfolding encode_symbols
+encoded_two x y = refl
+
+-- the number of the first digit
+none_value : (n : ℕ) → base64_digit_value 65 ≡ Some n → n ≡ 0
+none_value n is = let first : base64_digit_value 65 ≡ Some 0 = refl in cc (sym is ∙ first)
+
+no_octets : IsOctets []
+no_octets i = omega arith
+
+-- with padding there are one octet or two
+pub one_spelled : (a b n : ℕ) → a < 256 → b < 256 → number_of_four 262144 4096 64 (base64_digit_value a) (base64_digit_value b) (base64_digit_value 65) (base64_digit_value 65) ≡ Some n
+    → n % 65536 ≡ 0 → IsBase64Text (a ∷ b ∷ 61 ∷ 61 ∷ []) (n / 65536 ∷ [])
+one_spelled a b n ha hb is whole =
+    let digits = four (base64_digit_value a) (base64_digit_value b) (base64_digit_value 65) (base64_digit_value 65) n is in
+    let fa = symbol a digits.a ha digits.first in
+    let fb = symbol b digits.b hb digits.second in
+    let c = none_value digits.c digits.third in
+    let d = none_value digits.d digits.fourth in
+    let x : ℕ = n / 65536 in
+    let fits : x < 256 = omega (arith, digits.sum, fa.0, fb.0, c, d) in
+    let ea : x / 4 ≡ digits.a = omega (arith, digits.sum, fa.0, fb.0, c, d, whole) in
+    let eb : x % 4 * 16 ≡ digits.b = omega (arith, digits.sum, fa.0, fb.0, c, d, whole) in
+    (bytes_cons x [] fits no_octets, rw (encoded_one x, ea, eb, fa.1, fb.1) refl)
+
+pub two_spelled : (a b c n : ℕ) → a < 256 → b < 256 → c < 256 → number_of_four 262144 4096 64 (base64_digit_value a) (base64_digit_value b) (base64_digit_value c) (base64_digit_value 65) ≡ Some n
+    → n % 256 ≡ 0 → IsBase64Text (a ∷ b ∷ c ∷ 61 ∷ []) (n / 65536 ∷ n / 256 % 256 ∷ [])
+two_spelled a b c n ha hb hc is whole =
+    let digits = four (base64_digit_value a) (base64_digit_value b) (base64_digit_value c) (base64_digit_value 65) n is in
+    let fa = symbol a digits.a ha digits.first in
+    let fb = symbol b digits.b hb digits.second in
+    let fc = symbol c digits.c hc digits.third in
+    let d = none_value digits.d digits.fourth in
+    let x : ℕ = n / 65536 in
+    let y : ℕ = n / 256 % 256 in
+    let fits : x < 256 = omega (arith, digits.sum, fa.0, fb.0, fc.0, d) in
+    let ea : x / 4 ≡ digits.a = omega (arith, digits.sum, fa.0, fb.0, fc.0, d, whole) in
+    let eb : x % 4 * 16 + y / 16 ≡ digits.b = omega (arith, digits.sum, fa.0, fb.0, fc.0, d, whole) in
+    let ec : y % 16 * 4 ≡ digits.c = omega (arith, digits.sum, fa.0, fb.0, fc.0, d, whole) in
+    (bytes_cons x (y ∷ []) fits (bytes_cons y [] (omega arith) no_octets), rw (encoded_two x y, ea, eb, ec, fa.1, fb.1, fc.1) refl)
+
 -- with another symbol there is no padding
 one_left : (a b c d p : ℕ) (rest : List ℕ) → a ∷ b ∷ c ∷ d ∷ rest ≡ encode_of standard (p ∷ []) → c ≡ 61
 unfolding encode_symbols

@@ -1,7 +1,7 @@
 //! Octets in hexadecimal and in base 64 (RFC 4648), and the salts of NSEC3 (RFC 5155).
 //!
 //! Several tokens that make one value are joined before they are parsed.
-ghost use Rattle.std.specs.Prelude.{◌≡◌, ℕ, ◌*◌, ◌/◌, ◌<◌, ◌≤◌, true, false, List, ◌++◌, length, take, Some, IfOk, IfErr, slice_index};
+ghost use Rattle.std.specs.Prelude.{◌≡◌, ℕ, ◌*◌, ◌/◌, ◌<◌, ◌≤◌, true, false, List, [], ◌∷◌, ◌++◌, length, take, Some, IfOk, IfErr, IfSome, slice_index};
 ghost use Rattle.hex.specs.Hex.{upper_digits};
 ghost use Rattle.dnw_zone_values.specs.Spelling.{Appends};
 ghost use Rattle.dnw_zone_values.specs.Octets.{hex_text, base64_text, salt_text, IsHexText, IsBase64Text, IsSaltText};
@@ -147,10 +147,52 @@ fn put_groups<'t>(text: &'t [u8], room: &mut [u8]) -> (usize, &'t [u8])
     (len, left)
 }
 
-/// Appends the octets of the last group of a text in base 64, which may have padding.
-// It is not inlined, since the engine is put onto the stack.
-#[inline(never)]
+/// Appends the octets of the last group of a text in base 64, which has padding if it is one.
 fn push_last(text: &[u8], octets: &mut Vec<u8>) -> Result<(), FieldTextError>
+    requires { 1 ≤ length text.now }
+    ensures { Appends Base64Wanted IsBase64Text text.now octets.old.items octets.new.items result }
+{
+    if let [a, b, b'=', b'='] = text {
+        if let Some(octet) = one_octet(*a, *b) {
+            octets.extend_from_slice(&[octet])?;
+            return Ok(());
+        }
+    }
+    if let [a, b, c, b'='] = text {
+        if let Some(own) = two_octets(*a, *b, *c) {
+            octets.extend_from_slice(&own)?;
+            return Ok(());
+        }
+    }
+    decode_last(text, octets)
+}
+
+/// Returns the octet that two digits before two octets of padding write, if no bits are left.
+fn one_octet(a: u8, b: u8) -> Option<u8>
+    ensures { IfSome result (λ octet. IsBase64Text (a ∷ b ∷ 61 ∷ 61 ∷ []) (octet ∷ [])) }
+{
+    let number = base64_number(a, b, b'A', b'A')?;
+    if number % 65536 != 0 {
+        return None;
+    }
+    Some((number / 65536) as u8)
+}
+
+/// Returns the octets that three digits before one octet of padding write, if no bits are left.
+fn two_octets(a: u8, b: u8, c: u8) -> Option<[u8; 2]>
+    ensures { IfSome result (λ own. IsBase64Text (a ∷ b ∷ c ∷ 61 ∷ []) own) }
+{
+    let number = base64_number(a, b, c, b'A')?;
+    if number % 256 != 0 {
+        return None;
+    }
+    Some([(number / 65536) as u8, (number / 256 % 256) as u8])
+}
+
+/// Appends the octets of a text in base 64, or fails as `read_base64`: a last group that is none comes here.
+// It is not inlined, since it puts the engine onto the stack.
+#[inline(never)]
+fn decode_last(text: &[u8], octets: &mut Vec<u8>) -> Result<(), FieldTextError>
     requires { 1 ≤ length text.now }
     ensures { Appends Base64Wanted IsBase64Text text.now octets.old.items octets.new.items result }
 {

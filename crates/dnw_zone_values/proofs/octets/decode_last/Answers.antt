@@ -3,7 +3,7 @@ use Rattle.std.proofs.lemmas.List.{take-append-drop}
 use Rattle.base64.specs.Engines.{standard}
 use Rattle.base64.proofs.EngineFacts.{decode_of_strict}
 use Rattle.dnw_zone_values.proofs.ComeBack.{base64_none}
-use Rattle.dnw_zone_values.proofs.octets.push_last.Goals as goal
+use Rattle.dnw_zone_values.proofs.octets.decode_last.Goals as goal
 
 pub returns-in-Ok : goal.returns-in-Ok
 returns-in-Ok c =
