@@ -42,3 +42,4 @@ pub mod NamesRead
 pub mod WordParts
 mod UsualWords
 mod Marks
+mod Lanes

@@ -1,10 +1,15 @@
 //! How a text is split into words.
-ghost use Rattle.std.specs.Prelude.{◌≡◌, ◌≤◌, ◌+◌, ◌-◌, length, false, IfOk};
+ghost use Rattle.std.specs.Prelude.{◌≡◌, ◌≤◌, ◌+◌, ◌-◌, length, map, false, IfOk};
+ghost use Rattle.std.specs.Simd.Lanes.{mask_l};
 ghost use Rattle.std.specs.List.{filter, list_all};
-ghost use Rattle.dnw_zone_data.specs.Inside.WordParts.{is_mark, is_word_part};
+ghost use Rattle.dnw_zone_data.specs.Inside.WordParts.{is_mark, is_plain_stop, is_quoted_stop, is_word_part};
 ghost use Rattle.dnw_zone_data.specs.Words.{after_param, after_spaces, after_word, begins_with_quote, is_asterisk, is_word_end, is_no_space, is_plain_octet, is_space, param_len, param_word, plain_len, quoted_len, word, word_len};
 
 use std::alloc::{AllocError, Global};
+use std::simd::prelude::*;
+
+/// The characters that are looked at together.
+const LANES: usize = 16;
 
 // What each character is outside of quotes, escapes and comments: 1 for a part of a word, 2 for a space or a tab, and 0 for one that is
 // more.
@@ -78,15 +83,38 @@ pub(crate) fn begins_with_quote(text: &[u8]) -> bool
     }
 }
 
-/// Returns the length of the word that a text begins with.
+/// Returns the length of the word that a text begins with. Most words are without quotes, and a space is after them.
 fn word_len(text: &[u8]) -> usize
     ensures is { result ≡ word_len text.now }
     ensures within { result ≤ length text.now }
 {
+    let mut left = text;
+    'lanes: while left.len() >= LANES {
+        let stops = plain_stops(u8x16::from_slice(left));
+        if stops != 0 {
+            let len = stops.trailing_zeros() as usize;
+            if left[len] == b' ' {
+                return text.len() - left.len() + len;
+            }
+            break;
+        }
+        left = &left[LANES..];
+    }
     if begins_with_quote(text) {
         return 1 + quoted_len(&text[1..]);
     }
-    plain_len(text)
+    text.len() - left.len() + plain_len(left)
+}
+
+/// Returns which characters may end a word without quotes or escape the next one: a bit for each, from the lowest on. It is set for some
+/// others too.
+#[inline(always)]
+fn plain_stops(lanes: u8x16) -> u64
+    ensures { result ≡ mask_l (map is_plain_stop lanes) }
+{
+    (lanes.simd_le(u8x16::splat(b')'))
+        | lanes.simd_eq(u8x16::splat(b';'))
+        | lanes.simd_eq(u8x16::splat(b'\\'))).to_bitmask()
 }
 
 /// Returns the length of what is up to the quote at the end of a word, and with it.
@@ -94,7 +122,7 @@ fn quoted_len(text: &[u8]) -> usize
     ensures is { result ≡ quoted_len false text.now }
     ensures within { result ≤ length text.now }
 {
-    let mut left = text;
+    let mut left = after_quoted_lanes(text);
     while let Some((first, rest)) = left.split_first() {
         if *first == b'"' {
             return text.len() - rest.len();
@@ -111,12 +139,37 @@ fn quoted_len(text: &[u8]) -> usize
     text.len()
 }
 
+/// Returns what is left of a quoted string after characters that are a part of it and nothing more, many at a time.
+#[inline(always)]
+fn after_quoted_lanes(text: &[u8]) -> &[u8]
+    ensures within { length result.now ≤ length text.now }
+    ensures left { (length text.now - length result.now) + quoted_len false result.now ≡ quoted_len false text.now }
+{
+    let mut left = text;
+    'lanes: while left.len() >= LANES {
+        let stops = quoted_stops(u8x16::from_slice(left));
+        if stops != 0 {
+            return &left[stops.trailing_zeros() as usize..];
+        }
+        left = &left[LANES..];
+    }
+    left
+}
+
+/// Returns which characters end a quoted string or escape the next one: a bit for each, from the lowest on.
+#[inline(always)]
+fn quoted_stops(lanes: u8x16) -> u64
+    ensures { result ≡ mask_l (map is_quoted_stop lanes) }
+{
+    (lanes.simd_eq(u8x16::splat(b'"')) | lanes.simd_eq(u8x16::splat(b'\\'))).to_bitmask()
+}
+
 /// Returns the length of a word without quotes.
 fn plain_len(text: &[u8]) -> usize
     ensures is { result ≡ plain_len false text.now }
     ensures within { result ≤ length text.now }
 {
-    let mut left = after_fours(text);
+    let mut left = text;
     while let Some((first, rest)) = left.split_first() {
         if is_word_part(*first) {
             left = rest;
@@ -130,22 +183,6 @@ fn plain_len(text: &[u8]) -> usize
         }
     }
     text.len()
-}
-
-/// Returns what is left of a word without quotes after characters that are a part of it and nothing more, four at a time.
-#[inline(always)]
-fn after_fours(text: &[u8]) -> &[u8]
-    ensures within { length result.now ≤ length text.now }
-    ensures left { (length text.now - length result.now) + plain_len false result.now ≡ plain_len false text.now }
-{
-    let mut left = text;
-    'fours: while let [a, b, c, d, rest @ ..] = left {
-        if !is_word_part(*a) || !is_word_part(*b) || !is_word_part(*c) || !is_word_part(*d) {
-            break;
-        }
-        left = rest;
-    }
-    left
 }
 
 /// Returns `true` if a character outside of quotes is a part of a word and nothing more. A table takes one comparison.
