@@ -178,6 +178,14 @@ pub fn type_of_word(word: &[u8]) -> Option<RecordType>
     if let Some(record_type) = usual_type(word) {
         return Some(record_type);
     }
+    any_type(word)
+}
+
+/// Returns the type that a word is, in upper or lower case, or by its code.
+#[inline(never)]
+fn any_type(word: &[u8]) -> Option<RecordType>
+    ensures { MatchOption result ((record_type : RecordType) → ¬ (IsTypeWord word.now record_type)) (IsTypeWord word.now) }
+{
     if is_asterisk(word) {
         return None;
     }
@@ -186,35 +194,37 @@ pub fn type_of_word(word: &[u8]) -> Option<RecordType>
 }
 
 /// Returns the record type that a word is, for those that most records of zone files have.
+#[inline(always)]
 fn usual_type(word: &[u8]) -> Option<RecordType>
     ensures { IfSome result (IsTypeWord word.now) }
 {
-    if word == b"A".as_slice() {
-        return Some(RecordType::A);
+    match word {
+        [a] if *a == b'A' => Some(RecordType::A),
+        [a, b] => match (*a, *b) {
+            (b'N', b'S') => Some(RecordType::NS),
+            (b'D', b'S') => Some(RecordType::DS),
+            (b'M', b'X') => Some(RecordType::MX),
+            _ => None,
+        },
+        [a, b, c] => match (*a, *b, *c) {
+            (b'T', b'X', b'T') => Some(RecordType::TXT),
+            (b'P', b'T', b'R') => Some(RecordType::PTR),
+            (b'S', b'R', b'V') => Some(RecordType::SRV),
+            (b'S', b'O', b'A') => Some(RecordType::SOA),
+            (b'C', b'A', b'A') => Some(RecordType::CAA),
+            _ => None,
+        },
+        [a, b, c, d] => match (*a, *b, *c, *d) {
+            (b'A', b'A', b'A', b'A') => Some(RecordType::AAAA),
+            (b'N', b'S', b'E', b'C') => Some(RecordType::NSEC),
+            _ => None,
+        },
+        [a, b, c, d, e] => match (*a, *b, *c, *d, *e) {
+            (b'R', b'R', b'S', b'I', b'G') => Some(RecordType::RRSIG),
+            (b'N', b'S', b'E', b'C', b'3') => Some(RecordType::NSEC3),
+            (b'C', b'N', b'A', b'M', b'E') => Some(RecordType::CNAME),
+            _ => None,
+        },
+        _ => None,
     }
-    if word == b"NS".as_slice() {
-        return Some(RecordType::NS);
-    }
-    if word == b"AAAA".as_slice() {
-        return Some(RecordType::AAAA);
-    }
-    if word == b"RRSIG".as_slice() {
-        return Some(RecordType::RRSIG);
-    }
-    if word == b"NSEC3".as_slice() {
-        return Some(RecordType::NSEC3);
-    }
-    if word == b"DS".as_slice() {
-        return Some(RecordType::DS);
-    }
-    if word == b"MX".as_slice() {
-        return Some(RecordType::MX);
-    }
-    if word == b"TXT".as_slice() {
-        return Some(RecordType::TXT);
-    }
-    if word == b"CNAME".as_slice() {
-        return Some(RecordType::CNAME);
-    }
-    None
 }
