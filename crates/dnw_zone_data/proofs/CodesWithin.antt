@@ -1,8 +1,14 @@
 -- The codes of types that a bitmap lists ascend.
-use Rattle.std.proofs.Common.{◌≡◌, ◌≤◌, ◌<◌, ◌+◌, ◌-◌, ◌*◌, ◌==◌, ℕ, suc, List, [], ◌∷◌, ◌++◌, length, sym, subst, arith, append_assoc, append-nil, inl, inr}
+use Rattle.std.proofs.Common.{◌≡◌, ◌≤◌, ◌<◌, ◌+◌, ◌-◌, ◌*◌, ◌==◌, ℕ, suc, false, List, [], ◌∷◌, ◌++◌, length, map, refl, sym, ap, subst, arith, append_assoc, append-nil, inl, inr}
+use Rattle.std.specs.Prelude.{nat_eq}
 use Rattle.std.specs.Int.{bit_at}
-use Rattle.std.proofs.lemmas.Bool.{cases_Bool}
+use Rattle.std.specs.List.{dedup_from}
+use Rattle.std.specs.List.Sorted.{IsStrictlySortedBy}
+use Rattle.std.proofs.lemmas.Bool.{cases_Bool, ne_eqb}
+use Rattle.dnw_base.specs.declared.record_type.RecordType.{RecordType}
+use Rattle.dnw_base.specs.RecordTypes.{type_cmp, type_code}
 use Rattle.dnw_data.specs.TypeSets.{bit_codes, octet_codes, octets_codes}
+use Rattle.dnw_data.proofs.Sets.{empty_ascends, sorted_end, sorted_more}
 
 -- ---- codes that ascend, from the least on, and are those of types
 
@@ -39,3 +45,17 @@ octets_within first (o ∷ octets) rest few h =
     let on = octets_within (first + 8) octets rest (omega (arith, few)) (within_less (first + 8 + 8 * length octets) (first + 8 * suc (length octets)) rest (omega arith) h) in
     subst (Within first) (sym (append_assoc (octet_codes first o) (octets_codes (first + 8) octets) rest))
     (octet_within first o (octets_codes (first + 8) octets ++ rest) (omega (arith, few)) on)
+
+-- ---- types whose codes ascend are a set
+
+pub once : (code : ℕ) (codes : List ℕ) → Within (code + 1) codes → dedup_from nat_eq code codes ≡ code ∷ codes
+once code [] h = refl
+once code (next ∷ codes) h =
+    let other : nat_eq next code ≡ false = ne_eqb next code (omega (arith, h.0)) in
+    rw other (ap (λ (xs : List ℕ). code ∷ xs) (once next codes h.2))
+
+pub ascending_types : (least : ℕ) (types : List RecordType) → Within least (map type_code types) → IsStrictlySortedBy type_cmp types
+ascending_types least [] h = empty_ascends [] refl
+ascending_types least (record_type ∷ []) h = sorted_end record_type [] 0 (omega arith)
+ascending_types least (record_type ∷ next ∷ types) h =
+    sorted_more record_type next types (omega (arith, h.2.0)) (ascending_types (type_code record_type + 1) (next ∷ types) h.2)

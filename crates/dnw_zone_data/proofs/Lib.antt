@@ -43,3 +43,4 @@ pub mod WordParts
 mod UsualWords
 mod Marks
 mod Lanes
+mod FirstWindow

@@ -3,7 +3,7 @@ use Rattle.std.proofs.Common.{◌≡◌, ◌≢◌, ◌≤◌, ◌<◌, ℕ, zer
 use Rattle.std.specs.Prelude.{nat_eq, nat_le, not, Some, None, flat_map, Bool}
 use Rattle.std.specs.List.{AllByRecursion, dedup_from}
 use Rattle.std.specs.List.Sorted.{IsStrictlySortedBy}
-use Rattle.std.proofs.lemmas.Bool.{and_parts, cases_Bool, eqb-false, leb-true, ne_eqb}
+use Rattle.std.proofs.lemmas.Bool.{and_parts, cases_Bool, eqb-false, leb-true}
 use Rattle.std.proofs.lemmas.List.{take_all, take-append-drop, length-take-le}
 use Rattle.dnw_base.specs.declared.record_type.RecordType.{RecordType}
 use Rattle.dnw_base.specs.RecordTypes.{registered_type, type_cmp, type_code, type_of_code, type_of_text, type_text}
@@ -13,12 +13,12 @@ use Rattle.dnw_data.specs.declared.kind.ListKind.TheVariants as lists
 use Rattle.dnw_data.specs.Lists.{fault_within, list_fault}
 use Rattle.dnw_data.specs.Values.{types, items}
 use Rattle.dnw_data.specs.TypeSets.{Window, window, window_bytes, windows_codes, octets_codes, set_codes, EndsInBit, NumbersFrom, IsWritten}
-use Rattle.dnw_data.proofs.Sets.{empty_ascends, settled_already, sorted_end, sorted_more}
+use Rattle.dnw_data.proofs.Sets.{settled_already}
 use Rattle.dnw_zone_values.specs.Octets.{IsOctets}
 use Rattle.dnw_zone_values.proofs.ParamTextsBack.{drop_fit, map_some}
 use Rattle.dnw_zone_data.specs.Words.{is_end, word, after_spaces}
 use Rattle.dnw_zone_data.specs.TypeLists.{is_window, codes_within, codes_text, IsTypeWord, AreTypeWords, AreBitmap, AreTypes}
-use Rattle.dnw_zone_data.proofs.CodesWithin.{Within, octets_within, within_less}
+use Rattle.dnw_zone_data.proofs.CodesWithin.{Within, ascending_types, octets_within, once, within_less}
 use Rattle.dnw_zone_data.specs.Generic.{generic_mark}
 use Rattle.dnw_zone_data.specs.DataTextLaws.{FieldComesBack}
 use Rattle.dnw_data.proofs.Codes.{code_back}
@@ -95,12 +95,6 @@ codes_back : (codes : List ℕ) → map type_code (map type_of_code codes) ≡ c
 codes_back [] = refl
 codes_back (code ∷ codes) = rw (code_back code) (ap (λ (xs : List ℕ). code ∷ xs) (codes_back codes))
 
-once : (code : ℕ) (codes : List ℕ) → Within (code + 1) codes → dedup_from nat_eq code codes ≡ code ∷ codes
-once code [] h = refl
-once code (next ∷ codes) h =
-    let other : nat_eq next code ≡ false = ne_eqb next code (omega (arith, h.0)) in
-    rw other (ap (λ (xs : List ℕ). code ∷ xs) (once next codes h.2))
-
 set_is : (least : ℕ) (codes : List ℕ) → Within least codes → set_codes (map type_of_code codes) ≡ codes
 set_is least [] h = refl
 set_is least (code ∷ codes) h =
@@ -108,10 +102,7 @@ set_is least (code ∷ codes) h =
     ∙ ap (λ (c : ℕ). dedup_from nat_eq c codes) (code_back code) ∙ once code codes h.2
 
 ascend : (least : ℕ) (codes : List ℕ) → Within least codes → IsStrictlySortedBy type_cmp (map type_of_code codes)
-ascend least [] h = empty_ascends [] refl
-ascend least (code ∷ []) h = sorted_end (type_of_code code) [] 0 (omega arith)
-ascend least (code ∷ next ∷ codes) h =
-    sorted_more (type_of_code code) (type_of_code next) (map type_of_code codes) (omega (arith, code_back code, code_back next, h.2.0)) (ascend (code + 1) (next ∷ codes) h.2)
+ascend least codes h = ascending_types least (map type_of_code codes) (subst (Within least) (sym (codes_back codes)) h)
 
 bitmap : (least : ℕ) (own codes : List ℕ) → AreWindowsOf 0 own codes → AreBitmap (map type_of_code codes) own
 bitmap least own codes (ws, spelled, up, all, same, within) =

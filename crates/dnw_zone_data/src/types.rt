@@ -1,5 +1,5 @@
 //! Lists of record types: the types of a bitmap (RFC 4034, section 4.2).
-ghost use Rattle.std.specs.Prelude.{◌≡◌, ◌≤◌, ◌<◌, ◌+◌, ◌*◌, ◌++◌, ℕ, List, length, IfOk, IfSome, MatchOption, string_bytes};
+ghost use Rattle.std.specs.Prelude.{◌≡◌, ◌≤◌, ◌<◌, ◌+◌, ◌*◌, ◌++◌, ℕ, List, true, false, length, IfOk, IfSome, MatchOption, string_bytes};
 ghost use Rattle.dnw_base.specs.declared.record_type.RecordType.{RecordType};
 ghost use Rattle.dnw_data.specs.TypeSets.{bit_codes, octet_codes, octets_codes};
 ghost use Rattle.dnw_zone_data.specs.Bitmaps.{number_text, numbers_text};
@@ -13,6 +13,9 @@ use dnw_data::kind::Shown;
 use dnw_data::record_type_set::RecordTypeSet;
 use std::alloc::{AllocError, Global};
 use std::str;
+
+/// The number of codes of a window.
+const WINDOW_CODES: usize = 256;
 
 /// Appends the types of a bitmap, each after a space. Returns `false` if a window could be shorter, or is cut; nothing is changed
 /// then.
@@ -125,11 +128,53 @@ fn write_number(shown: Shown, number: u16, out: &mut String) -> Result<(), Alloc
 pub fn parse_types(alloc: Global, text: &[u8], out: &mut Vec<u8>) -> Result<bool, AllocError>
     ensures { IfOk result (AppendsOne (AreTypes text.now) out.old.items out.new.items) }
 {
+    if parse_first_window(text, out)? {
+        return Ok(true);
+    }
+    parse_any_types(alloc, text, out)
+}
+
+/// Appends the bitmap of the types that all words are, in any order. Returns `false` if one is no type.
+#[inline(never)]
+fn parse_any_types(alloc: Global, text: &[u8], out: &mut Vec<u8>) -> Result<bool, AllocError>
+    ensures { IfOk result (AppendsOne (AreTypes text.now) out.old.items out.new.items) }
+{
     let Some(listed) = types_of_words(alloc, text)? else {
         return Ok(false);
     };
     let set = set_of(alloc, listed)?;
     out.extend_from_slice(set.as_bytes())?;
+    Ok(true)
+}
+
+/// Appends the bitmap of the types that all words are if they are types of the first window, each after the one before it: so most lists
+/// are. Returns `false` if they are not, or there is none; nothing is changed then.
+fn parse_first_window(text: &[u8], out: &mut Vec<u8>) -> Result<bool, AllocError>
+    ensures types { IfOk result (λ read. read ≡ true → AppendsOne (AreTypes text.now) out.old.items out.new.items true) }
+    ensures same { IfOk result (λ read. read ≡ false → out.new.items ≡ out.old.items) }
+{
+    let mut octets = [0; MAX_WINDOW];
+    let mut next = 0;
+    let mut left = after_spaces(text);
+    'types: while !left.is_empty() {
+        let (word, rest) = split_word(left);
+        let Some(record_type) = type_of_word(word) else {
+            return Ok(false);
+        };
+        let code = usize::from(u16::from(record_type));
+        if code < next || code >= WINDOW_CODES {
+            return Ok(false);
+        }
+        octets[code / 8] |= 1 << (7 - code % 8);
+        next = code + 1;
+        left = after_spaces(rest);
+    }
+    if next == 0 {
+        return Ok(false);
+    }
+    let len = (next + 7) / 8;
+    out.extend_from_slice(&[0, len as u8])?;
+    out.extend_from_slice(&octets[..len])?;
     Ok(true)
 }
 

@@ -2,7 +2,7 @@ use Rattle.std.proofs.Common.{List, ℕ, refl, sym, subst}
 use Rattle.dnw_data.specs.declared.kind.ListKind.TheVariants as lists
 use Rattle.dnw_data.specs.Values.{types, items}
 use Rattle.dnw_zone_data.specs.TypeLists.{AreBitmap}
-use Rattle.dnw_zone_data.proofs.types.parse_types.Goals as goal
+use Rattle.dnw_zone_data.proofs.types.parse_any_types.Goals as goal
 
 pub returns : goal.returns
 returns c =
