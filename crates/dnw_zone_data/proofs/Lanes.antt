@@ -1,12 +1,12 @@
 -- Characters that are looked at together.
-use Rattle.std.proofs.Common.{◌≡◌, ℕ, zero, suc, ◌+◌, ◌-◌, ◌*◌, ◌^◌, ◌%◌, ◌≤◌, ◌<◌, ◌==◌, ◌||◌, Bool, true, false, not, cond, List, [], ◌∷◌, map, length, take, drop, get_or, bit_or, refl, sym, ap, ap₂, ◌∙◌, arith, inl, inr}
+use Rattle.std.proofs.Common.{◌≡◌, ◌≢◌, ℕ, zero, suc, ◌+◌, ◌-◌, ◌*◌, ◌^◌, ◌%◌, ◌≤◌, ◌<◌, ◌==◌, ◌||◌, Bool, true, false, not, cond, List, [], ◌∷◌, map, length, take, drop, get_or, bit_or, refl, sym, ap, ap₂, ◌∙◌, arith, inl, inr}
 use Rattle.std.specs.List.{prefix_len}
 use Rattle.std.specs.Simd.Lanes.{mask_l}
 use Rattle.std.proofs.lemmas.Bool.{cases_Bool, eqb-true}
 use Rattle.std.proofs.lemmas.Bool.Decides.{nat_tests}
 use Rattle.std.proofs.Math.Seq.{drop-nil}
-use Rattle.std.proofs.lemmas.List.{drop-drop, get_or-drop, length-drop, length-map, take_all}
-use Rattle.std.proofs.lemmas.Simd.{leading_from_mask_l, length-chunk, mask_l-mod, trailing_mask_l}
+use Rattle.std.proofs.lemmas.List.{length-drop, length-map, length-take-le, take_all}
+use Rattle.std.proofs.lemmas.Simd.{leading_from_mask_l, mask_l-mod, trailing_mask_l}
 use lib.Count.{count_trailing_zeros}
 use lib.Lanes.{top}
 use Rattle.dnw_zone_values.specs.Strings.{quote, backslash}
@@ -35,7 +35,7 @@ tops : (f : ℕ → ℕ) (p : ℕ → Bool) → ((c : ℕ) → top 7 (f c) ≡ p
 tops f p same [] = refl
 tops f p same (c ∷ cs) = ap₂ (λ x l. x ∷ l) (same c) (tops f p same cs)
 
-pub mask_of : (f : ℕ → ℕ) (p : ℕ → Bool) → ((c : ℕ) → top 7 (f c) ≡ p c) → (lanes tested : List ℕ) → length lanes ≡ 16 → tested ≡ map f lanes
+pub mask_of : (f : ℕ → ℕ) (p : ℕ → Bool) → ((c : ℕ) → top 7 (f c) ≡ p c) → (lanes tested : List ℕ) → length lanes ≤ 64 → tested ≡ map f lanes
     → mask_l (map (top 7) tested) % 2 ^ 64 ≡ mask_l (map p lanes)
 mask_of f p same lanes tested size is =
     ap (λ l. mask_l l % 2 ^ 64) (ap (map (top 7)) is ∙ tops f p same lanes) ∙ mask_l-mod (map p lanes) 64 (omega (arith, length-map lanes p, size))
@@ -73,42 +73,39 @@ quoted_more c cs is = elim (cases_Bool (c == quote)) [
   | inr q ↦ rw (q, (let other : (c == backslash) ≡ false = rw q at is in other)) refl
 ]
 
-pub plain_run : (n : ℕ) (xs : List ℕ) → n ≤ prefix_len (λ c. not (is_plain_stop c)) (take 16 xs) → plain_len false xs ≡ n + plain_len false (drop n xs)
-plain_run n xs few = run is_plain_stop (plain_len false) plain_more n 16 xs few
+pub plain_run : (n k : ℕ) (xs : List ℕ) → n ≤ prefix_len (λ c. not (is_plain_stop c)) (take k xs) → plain_len false xs ≡ n + plain_len false (drop n xs)
+plain_run n k xs few = run is_plain_stop (plain_len false) plain_more n k xs few
 
-pub quoted_run : (n : ℕ) (xs : List ℕ) → n ≤ prefix_len (λ c. not (is_quoted_stop c)) (take 16 xs) → quoted_len false xs ≡ n + quoted_len false (drop n xs)
-quoted_run n xs few = run is_quoted_stop (quoted_len false) quoted_more n 16 xs few
+pub quoted_run : (n k : ℕ) (xs : List ℕ) → n ≤ prefix_len (λ c. not (is_quoted_stop c)) (take k xs) → quoted_len false xs ≡ n + quoted_len false (drop n xs)
+quoted_run n k xs few = run is_quoted_stop (quoted_len false) quoted_more n k xs few
 
 -- the lanes of a mask: none stops, or the lowest bit stands for the first that does
-pub none_stops : (p : ℕ → Bool) (xs : List ℕ) (mask : ℕ) → 16 ≤ length xs → mask ≡ mask_l (map p (take 16 xs)) → mask ≡ 0
-    → 16 ≤ prefix_len (λ c. not (p c)) (take 16 xs)
-none_stops p xs mask size is none = omega (arith, leading_from_mask_l p (take 16 xs) (sym is ∙ none), length-chunk 0 16 xs size)
+pub none_stops : (p : ℕ → Bool) (k : ℕ) (xs : List ℕ) (mask : ℕ) → k ≤ length xs → mask ≡ mask_l (map p (take k xs)) → mask ≡ 0
+    → k ≤ prefix_len (λ c. not (p c)) (take k xs)
+none_stops p k xs mask size is none = omega (arith, leading_from_mask_l p (take k xs) (sym is ∙ none), length-take-le k xs size)
 
-pub one_stops : (p : ℕ → Bool) (xs : List ℕ) (mask : ℕ) → 16 ≤ length xs → mask ≡ mask_l (map p (take 16 xs)) → 0 < mask
-    → (count_trailing_zeros 64 mask < length xs) × (count_trailing_zeros 64 mask ≤ prefix_len (λ c. not (p c)) (take 16 xs))
-one_stops p xs mask size is some =
-    let size-lanes = length-chunk 0 16 xs size in
-    let first = trailing_mask_l p 64 (take 16 xs) (omega (arith, size-lanes)) (omega (arith, is, some)) in
-    let within = stop_within p (take 16 xs) (omega (arith, is, some)) in
+pub one_stops : (p : ℕ → Bool) (k : ℕ) (xs : List ℕ) (mask : ℕ) → k ≤ 64 → k ≤ length xs → mask ≡ mask_l (map p (take k xs)) → mask ≢ 0
+    → (count_trailing_zeros 64 mask < length xs) × (count_trailing_zeros 64 mask ≤ prefix_len (λ c. not (p c)) (take k xs))
+one_stops p k xs mask small size is some =
+    let size-lanes = length-take-le k xs size in
+    let first = trailing_mask_l p 64 (take k xs) (omega (arith, size-lanes, small)) (omega (arith, is, some)) in
+    let within = stop_within p (take k xs) (omega (arith, is, some)) in
     rw is (omega (arith, first, within, size-lanes, size), omega (arith, first))
 
 -- ---- what is left after characters that were passed
 
 -- so many characters of a text were passed, and those are so many of a length
 abbrev pub Passed : (List ℕ → ℕ) → List ℕ → List ℕ → Type 0
-Passed len all left =
-    (length left ≤ length all) × (left ≡ drop (length all - length left) all) × ((length all - length left) + len left ≡ len all)
+Passed len all left = (length left ≤ length all) × ((length all - length left) + len left ≡ len all)
+
+pub passed_none : (len : List ℕ → ℕ) (all : List ℕ) → Passed len all all
+passed_none len all = (omega arith, omega arith)
 
 pub pass : (len : List ℕ → ℕ) (n : ℕ) (all left : List ℕ) → n ≤ length left → len left ≡ n + len (drop n left) → Passed len all left
     → Passed len all (take (length left - n) (drop n left))
-pass len n all left size more (within, is, so) =
+pass len n all left size more (within, so) =
     let rest : take (length left - n) (drop n left) ≡ drop n left = take_all (length left - n) (drop n left) (omega (arith, length-drop n left)) in
-    let passed : length all - length (drop n left) ≡ (length all - length left) + n = omega (arith, length-drop n left, size, within) in
-    rw rest (
-      omega (arith, length-drop n left, within),
-      ap (drop n) is ∙ drop-drop n (length all - length left) all ∙ ap (λ k. drop k all) (sym passed),
-      omega (arith, passed, more, so),
-    )
+    rw rest (omega (arith, length-drop n left, within), omega (arith, length-drop n left, size, within, more, so))
 
 -- ---- a word with a space after it
 
@@ -128,8 +125,5 @@ plain_word (c ∷ cs) n size is = elim (cases_Bool (c == quote)) [
 ]
 
 -- the word ends at a space
-pub spaced_word : (text left : List ℕ) (n : ℕ) → Passed (plain_len false) text left → plain_len false left ≡ n + plain_len false (drop n left) → get_or left n 0 ≡ 32
-    → (length text - length left) + n ≡ word_len text
-spaced_word text left n (within, is, so) more space =
-    plain_word text ((length text - length left) + n) (omega (arith, so, more, no_more left n space))
-    (sym (get_or-drop (length text - length left) text n 0) ∙ ap (λ xs. get_or xs n 0) (sym is) ∙ space)
+pub spaced_word : (text : List ℕ) (n : ℕ) → plain_len false text ≡ n + plain_len false (drop n text) → get_or text n 0 ≡ 32 → n ≡ word_len text
+spaced_word text n more space = plain_word text n (omega (arith, more, no_more text n space)) space

@@ -1,5 +1,5 @@
 //! How a text is split into words.
-ghost use Rattle.std.specs.Prelude.{◌≡◌, ◌≤◌, ◌+◌, ◌-◌, length, map, false, IfOk};
+ghost use Rattle.std.specs.Prelude.{◌≡◌, ◌≤◌, ◌+◌, ◌-◌, drop, length, map, false, IfOk};
 ghost use Rattle.std.specs.Simd.Lanes.{mask_l};
 ghost use Rattle.std.specs.List.{filter, list_all};
 ghost use Rattle.dnw_zone_data.specs.Inside.WordParts.{is_mark, is_plain_stop, is_quoted_stop, is_word_part};
@@ -10,6 +10,9 @@ use std::simd::prelude::*;
 
 /// The characters that are looked at together.
 const LANES: usize = 16;
+
+/// The characters that are looked at together if there are fewer.
+const HALF_LANES: usize = 8;
 
 // What each character is outside of quotes, escapes and comments: 1 for a part of a word, 2 for a space or a tab, and 0 for one that is
 // more.
@@ -83,27 +86,38 @@ pub(crate) fn begins_with_quote(text: &[u8]) -> bool
     }
 }
 
-/// Returns the length of the word that a text begins with. Most words are without quotes, and a space is after them.
+/// Returns the length of the word that a text begins with. Most words are short and without quotes, and a space is after them.
+#[inline(never)]
 fn word_len(text: &[u8]) -> usize
     ensures is { result ≡ word_len text.now }
     ensures within { result ≤ length text.now }
 {
-    let mut left = text;
-    'lanes: while left.len() >= LANES {
-        let stops = plain_stops(u8x16::from_slice(left));
-        if stops != 0 {
-            let len = stops.trailing_zeros() as usize;
-            if left[len] == b' ' {
-                return text.len() - left.len() + len;
-            }
-            break;
-        }
-        left = &left[LANES..];
+    if text.len() < LANES {
+        return any_word_len(text, 0);
     }
+    let stops = plain_stops(u8x16::from_slice(text));
+    if stops == 0 {
+        return any_word_len(text, LANES);
+    }
+    let len = stops.trailing_zeros() as usize;
+    if text[len] == b' ' {
+        return len;
+    }
+    any_word_len(text, len)
+}
+
+/// Returns the length of the word that a text begins with. If it is without quotes, so many characters were passed.
+#[inline(never)]
+fn any_word_len(text: &[u8], passed: usize) -> usize
+    requires within { passed ≤ length text.now }
+    requires passed { plain_len false text.now ≡ passed + plain_len false (drop passed text.now) }
+    ensures is { result ≡ word_len text.now }
+    ensures within { result ≤ length text.now }
+{
     if begins_with_quote(text) {
         return 1 + quoted_len(&text[1..]);
     }
-    text.len() - left.len() + plain_len(left)
+    passed + plain_len(&text[passed..])
 }
 
 /// Returns which characters may end a word without quotes or escape the next one: a bit for each, from the lowest on. It is set for some
@@ -115,6 +129,16 @@ fn plain_stops(lanes: u8x16) -> u64
     (lanes.simd_le(u8x16::splat(b')'))
         | lanes.simd_eq(u8x16::splat(b';'))
         | lanes.simd_eq(u8x16::splat(b'\\'))).to_bitmask()
+}
+
+/// Returns which of fewer characters may do so.
+#[inline(always)]
+fn half_stops(lanes: u8x8) -> u64
+    ensures { result ≡ mask_l (map is_plain_stop lanes) }
+{
+    (lanes.simd_le(u8x8::splat(b')'))
+        | lanes.simd_eq(u8x8::splat(b';'))
+        | lanes.simd_eq(u8x8::splat(b'\\'))).to_bitmask()
 }
 
 /// Returns the length of what is up to the quote at the end of a word, and with it.
@@ -169,7 +193,7 @@ fn plain_len(text: &[u8]) -> usize
     ensures is { result ≡ plain_len false text.now }
     ensures within { result ≤ length text.now }
 {
-    let mut left = text;
+    let mut left = after_lanes(text);
     while let Some((first, rest)) = left.split_first() {
         if is_word_part(*first) {
             left = rest;
@@ -183,6 +207,39 @@ fn plain_len(text: &[u8]) -> usize
         }
     }
     text.len()
+}
+
+/// Returns what is left of a word without quotes after characters that are a part of it and nothing more, many at a time.
+#[inline(always)]
+fn after_lanes(text: &[u8]) -> &[u8]
+    ensures within { length result.now ≤ length text.now }
+    ensures left { (length text.now - length result.now) + plain_len false result.now ≡ plain_len false text.now }
+{
+    let mut left = text;
+    'lanes: while left.len() >= LANES {
+        let stops = plain_stops(u8x16::from_slice(left));
+        if stops != 0 {
+            return &left[stops.trailing_zeros() as usize..];
+        }
+        left = &left[LANES..];
+    }
+    after_half_lanes(left)
+}
+
+/// Returns what is left of a word without quotes after characters that are a part of it and nothing more, eight at most.
+#[inline(always)]
+fn after_half_lanes(text: &[u8]) -> &[u8]
+    ensures within { length result.now ≤ length text.now }
+    ensures left { (length text.now - length result.now) + plain_len false result.now ≡ plain_len false text.now }
+{
+    if text.len() < HALF_LANES {
+        return text;
+    }
+    let stops = half_stops(u8x8::from_slice(text));
+    if stops != 0 {
+        return &text[stops.trailing_zeros() as usize..];
+    }
+    &text[HALF_LANES..]
 }
 
 /// Returns `true` if a character outside of quotes is a part of a word and nothing more. A table takes one comparison.

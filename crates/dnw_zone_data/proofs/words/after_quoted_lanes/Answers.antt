@@ -6,20 +6,20 @@ use Rattle.dnw_zone_data.proofs.words.after_quoted_lanes.Goals as goal
 
 pub slice_bounds-result-count : goal.slice_bounds-result-count
 slice_bounds-result-count c =
-    let stop = one_stops is_quoted_stop c.lanes.left.now c.quoted_stops-stops.result c.lanes-test.true c.quoted_stops-stops.ensures (omega (arith, c.if-stops-ne0.true)) in
+    let stop = one_stops is_quoted_stop 16 c.lanes.left.now c.quoted_stops-stops.result (omega arith) c.lanes-test.true c.quoted_stops-stops.ensures c.if-stops-ne0.true in
     omega (arith, stop.0)
 
 pub slice_bounds-result-start : goal.slice_bounds-result-start
 slice_bounds-result-start c =
-    let stop = one_stops is_quoted_stop c.lanes.left.now c.quoted_stops-stops.result c.lanes-test.true c.quoted_stops-stops.ensures (omega (arith, c.if-stops-ne0.true)) in
+    let stop = one_stops is_quoted_stop 16 c.lanes.left.now c.quoted_stops-stops.result (omega arith) c.lanes-test.true c.quoted_stops-stops.ensures c.if-stops-ne0.true in
     omega (arith, stop.0)
 
 pub returns-then-stops-ne0-clause-left : goal.returns-then-stops-ne0-clause-left
 returns-then-stops-ne0-clause-left c =
-    let stop = one_stops is_quoted_stop c.lanes.left.now c.quoted_stops-stops.result c.lanes-test.true c.quoted_stops-stops.ensures (omega (arith, c.if-stops-ne0.true)) in
-    (pass (quoted_len false) _ c.args.text.now c.lanes.left.now (omega (arith, stop.0)) (quoted_run _ c.lanes.left.now stop.1) c.lanes.invariant).2
+    let stop = one_stops is_quoted_stop 16 c.lanes.left.now c.quoted_stops-stops.result (omega arith) c.lanes-test.true c.quoted_stops-stops.ensures c.if-stops-ne0.true in
+    (pass (quoted_len false) _ c.args.text.now c.lanes.left.now (omega (arith, stop.0)) (quoted_run _ 16 c.lanes.left.now stop.1) c.lanes.invariant).1
 
 pub lanes-preserved : goal.lanes-preserved
 lanes-preserved c =
-    let none = none_stops is_quoted_stop c.lanes.left.now c.quoted_stops-stops.result c.lanes-test.true c.quoted_stops-stops.ensures (omega (arith, c.if-stops-ne0.false)) in
-    pass (quoted_len false) 16 c.args.text.now c.lanes.left.now c.lanes-test.true (quoted_run 16 c.lanes.left.now none) c.lanes.invariant
+    let none = none_stops is_quoted_stop 16 c.lanes.left.now c.quoted_stops-stops.result c.lanes-test.true c.quoted_stops-stops.ensures c.if-stops-ne0.false in
+    pass (quoted_len false) 16 c.args.text.now c.lanes.left.now c.lanes-test.true (quoted_run 16 16 c.lanes.left.now none) c.lanes.invariant

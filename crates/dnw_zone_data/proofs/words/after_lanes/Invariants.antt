@@ -1,7 +1,7 @@
 use Rattle.std.proofs.Common.{length, false}
 use Rattle.dnw_zone_data.specs.Words.{plain_len}
 use Rattle.dnw_zone_data.proofs.Lanes.{Passed}
-use Rattle.dnw_zone_data.proofs.words.word_len.Given as goal
+use Rattle.dnw_zone_data.proofs.words.after_lanes.Given as goal
 
 abbrev pub invariant-lanes : goal.invariant-lanes
 invariant-lanes l = Passed (plain_len false) l.text l.left
