@@ -42,7 +42,7 @@ mask_of f p same lanes tested size is =
 
 -- ---- up to the first that a test stops at
 
-pub stop_within : (p : ℕ → Bool) (xs : List ℕ) → 0 < mask_l (map p xs) → prefix_len (λ c. not (p c)) xs < length xs
+stop_within : (p : ℕ → Bool) (xs : List ℕ) → 0 < mask_l (map p xs) → prefix_len (λ c. not (p c)) xs < length xs
 stop_within p [] some = absurd (omega (arith, some))
 stop_within p (c ∷ cs) some = elim (cases_Bool (p c)) [
   | inl is ↦ rw is (omega arith)

@@ -8,10 +8,10 @@ ghost use Rattle.dnw_zone_data.specs.Words.{after_param, after_spaces, after_wor
 use std::alloc::{AllocError, Global};
 use std::simd::prelude::*;
 
-/// The characters that are looked at together.
+/// How many characters are looked at together.
 const LANES: usize = 16;
 
-/// The characters that are looked at together if there are fewer.
+/// How many are looked at together if a text has fewer.
 const HALF_LANES: usize = 8;
 
 // What each character is outside of quotes, escapes and comments: 1 for a part of a word, 2 for a space or a tab, and 0 for one that is
@@ -106,7 +106,7 @@ fn word_len(text: &[u8]) -> usize
     any_word_len(text, len)
 }
 
-/// Returns the length of the word that a text begins with. If it is without quotes, so many characters were passed.
+/// Returns the length of the word that a text begins with. If the word is without quotes, so many characters are known to be a part of it.
 #[inline(never)]
 fn any_word_len(text: &[u8], passed: usize) -> usize
     requires within { passed ≤ length text.now }
@@ -131,7 +131,7 @@ fn plain_stops(lanes: u8x16) -> u64
         | lanes.simd_eq(u8x16::splat(b'\\'))).to_bitmask()
 }
 
-/// Returns which of fewer characters may do so.
+/// Returns which of eight characters may do so, as `plain_stops`.
 #[inline(always)]
 fn half_stops(lanes: u8x8) -> u64
     ensures { result ≡ mask_l (map is_plain_stop lanes) }
