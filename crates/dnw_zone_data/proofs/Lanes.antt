@@ -20,6 +20,10 @@ use Rattle.dnw_zone_data.proofs.WordParts.{goes_on}
 abbrev lane_if : Bool → ℕ
 lane_if is = cond is 255 0
 
+pub one_top : (a : Bool) → top 7 (lane_if a) ≡ a
+one_top true = refl
+one_top false = refl
+
 pub either_top : (a b : Bool) → top 7 (bit_or (lane_if a) (lane_if b)) ≡ (a || b)
 either_top true true = refl
 either_top true false = refl
@@ -50,7 +54,7 @@ stop_within p (c ∷ cs) some = elim (cases_Bool (p c)) [
 ]
 
 -- so many characters are each one more of a length
-run : (p : ℕ → Bool) (len : List ℕ → ℕ) → ((c : ℕ) (cs : List ℕ) → p c ≡ false → len (c ∷ cs) ≡ 1 + len cs)
+pub run : (p : ℕ → Bool) (len : List ℕ → ℕ) → ((c : ℕ) (cs : List ℕ) → p c ≡ false → len (c ∷ cs) ≡ 1 + len cs)
     → (n k : ℕ) (xs : List ℕ) → n ≤ prefix_len (λ c. not (p c)) (take k xs) → len xs ≡ n + len (drop n xs)
 run p len more zero k xs few = omega arith
 run p len more (suc n) zero xs few = absurd (omega (arith, few))

@@ -44,3 +44,4 @@ mod UsualWords
 mod Marks
 mod Lanes
 mod FirstWindow
+mod Spaces

@@ -1,8 +1,8 @@
 //! How a text is split into words.
 ghost use Rattle.std.specs.Prelude.{◌≡◌, ◌≤◌, ◌+◌, ◌-◌, drop, length, map, false, IfOk};
 ghost use Rattle.std.specs.Simd.Lanes.{mask_l};
-ghost use Rattle.std.specs.List.{filter, list_all};
-ghost use Rattle.dnw_zone_data.specs.Inside.WordParts.{is_mark, is_plain_stop, is_quoted_stop, is_word_part};
+ghost use Rattle.std.specs.List.{filter, list_all, prefix_len};
+ghost use Rattle.dnw_zone_data.specs.Inside.WordParts.{PassesMarks, is_low, is_mark, is_plain_stop, is_quoted_stop, is_word_part};
 ghost use Rattle.dnw_zone_data.specs.Words.{after_param, after_spaces, after_word, begins_with_quote, is_asterisk, is_word_end, is_no_space, is_plain_octet, is_space, param_len, param_word, plain_len, quoted_len, word, word_len};
 
 use std::alloc::{AllocError, Global};
@@ -320,11 +320,52 @@ fn are_marks(text: &[u8]) -> bool
 pub fn without_spaces(alloc: Global, text: &[u8]) -> Result<Vec<u8>, AllocError>
     ensures { IfOk result (λ joined. joined.items ≡ filter is_no_space text.now) }
 {
-    let mut joined = Vec::new(alloc);
-    for c in text {
-        if !is_space(*c) {
-            joined.push(*c)?;
-        }
+    let mut joined = Vec::with_capacity(alloc, text.len())?;
+    let mut left = after_spaces(text);
+    'runs: while !left.is_empty() {
+        let others = from_space(left);
+        joined.extend_from_slice(&left[..left.len() - others.len()])?;
+        left = after_spaces(others);
     }
     Ok(joined)
+}
+
+/// Returns a text from the first white space on.
+fn from_space(text: &[u8]) -> &[u8]
+    ensures within { length result.now ≤ length text.now }
+    ensures count { length text.now - length result.now ≡ prefix_len is_no_space text.now }
+    ensures rest { result.now ≡ drop (prefix_len is_no_space text.now) text.now }
+{
+    let mut left = after_marks(text);
+    while let Some((first, rest)) = left.split_first() {
+        if is_space(*first) {
+            return left;
+        }
+        left = rest;
+    }
+    left
+}
+
+/// Returns what is left of a text after characters that are after the space, many at a time.
+#[inline(always)]
+fn after_marks(text: &[u8]) -> &[u8]
+    ensures { PassesMarks text.now result.now }
+{
+    let mut left = text;
+    'lanes: while left.len() >= LANES {
+        let stops = low_stops(u8x16::from_slice(left));
+        if stops != 0 {
+            return &left[stops.trailing_zeros() as usize..];
+        }
+        left = &left[LANES..];
+    }
+    left
+}
+
+/// Returns which characters are not after the space: a bit for each, from the lowest on.
+#[inline(always)]
+fn low_stops(lanes: u8x16) -> u64
+    ensures { result ≡ mask_l (map is_low lanes) }
+{
+    lanes.simd_le(u8x16::splat(b' ')).to_bitmask()
 }
