@@ -1,6 +1,6 @@
 -- Fields of texts, one after another.
-use Rattle.std.proofs.Common.{◌≡◌, ℕ, ◌-◌, List, ◌∷◌, ◌++◌, length, Result, Ok, Err, IfOk, ◌⊎◌, inl, inr, refl, sym, ap, ◌∙◌, subst, append_assoc}
-use Rattle.std.specs.Prelude.{Option, Some, flat_map, IfErr}
+use Rattle.std.proofs.Common.{◌≡◌, ℕ, ◌-◌, List, ◌∷◌, ◌++◌, length, ◌⊎◌, inl, inr, sym, ap, ◌∙◌, append_assoc}
+use Rattle.std.specs.Prelude.{Option, flat_map}
 use Rattle.dnw_base.specs.Names.{NameValue}
 use Rattle.dnw_data.specs.declared.kind.Kind.{Kind}
 use Rattle.dnw_data.specs.Values.{FieldValue}
@@ -15,44 +15,45 @@ use Rattle.dnw_zone_data.specs.Parsing.{ReadsField, AreFieldTexts, FailsFields, 
 use Rattle.dnw_data.specs.FieldWires.{field_wire}
 use Rattle.dnw_zone_data.specs.Inside.Reads.{AppendsRest}
 
-pub field_missing : (origin : Option NameValue) (count len : ℕ) (ways : List NumberForm) (way : NumberForm) (kinds others : List Kind) (kind : Kind) (left start : List ℕ) (wanted : Wanted)
-    → kinds ≡ kind ∷ others → start ≡ after_spaces left → way ≡ first_form ways → IsWanted way kind start wanted
-    → ((value : FieldValue) (rest : List ℕ) → ¬ (ReadsField origin way kind start value rest))
-    → FailsFields origin count len ways kinds left (fault (count - length kinds) (len - length start) wanted)
-field_missing origin count len ways way kinds others kind left start wanted e s f w none =
-    let here = subst (λ (x : NumberForm). (value : FieldValue) (rest : List ℕ) → ¬ (ReadsField origin x kind start value rest)) f none in
-    let there = subst (λ (xs : List ℕ). (value : FieldValue) (rest : List ℕ) → ¬ (ReadsField origin (first_form ways) kind xs value rest)) s here in
-    let mine = subst (λ (x : NumberForm). IsWanted x kind start wanted) f w in
-    let same : IsWanted (first_form ways) kind (after_spaces left) wanted = subst (λ (xs : List ℕ). IsWanted (first_form ways) kind xs wanted) s mine in
-    rw (e, s) (inl (there, wanted, same, refl))
-
+-- The text is fields, whose octets are appended.
 abbrev pub AreAppended : Option NameValue → List NumberForm → List Kind → List ℕ → List ℕ → List ℕ → Type 0
 AreAppended origin ways kinds left old new = (values : List FieldValue) × AreFieldTexts origin ways kinds left values × (new ≡ old ++ flat_map field_wire values)
 
-pub field_more : (origin : Option NameValue) (ways ways_after : List NumberForm) (way : NumberForm) (kinds others : List Kind) (kind : Kind) (left start rest old mid new : List ℕ) (r : Result Unit DataTextError)
+-- What is left of a text after some fields ends as all of it does.
+abbrev pub GoOn : Option NameValue → ℕ → ℕ → List NumberForm → List Kind → List ℕ → List ℕ → List NumberForm → List Kind → List ℕ → List ℕ → Type 0
+GoOn origin count len ways kinds text old others left rest mid =
+    ((new : List ℕ) → AreAppended origin others left rest mid new → AreAppended origin ways kinds text old new)
+    × ((e : DataTextError) → FailsFields origin count len others left rest e → FailsFields origin count len ways kinds text e)
+
+-- a field is read
+pub field_more : (origin : Option NameValue) (count len : ℕ) (all : List NumberForm) (first : List Kind) (text old : List ℕ)
+    (ways ways_after : List NumberForm) (way : NumberForm) (kinds others : List Kind) (kind : Kind) (left start rest mid new : List ℕ)
+    → GoOn origin count len all first text old ways kinds left mid
     → kinds ≡ kind ∷ others → start ≡ after_spaces left → way ≡ first_form ways → ways_after ≡ other_forms ways
-    → AppendsRest (ReadsField origin way kind start) old mid (Some rest)
-    → IfOk r (λ _. AreAppended origin ways_after others rest mid new) → IfOk r (λ _. AreAppended origin ways kinds left old new)
-field_more origin ways ways_after way kinds others kind left start rest old mid new (Err x) e s f o h are = tt
-field_more origin ways ways_after way kinds others kind left start rest old mid new (Ok x) e s f o h are =
-    let here = subst (λ (w : NumberForm). ReadsField origin w kind start h.0 rest) f h.1 in
-    let reads = subst (λ (xs : List ℕ). ReadsField origin (first_form ways) kind xs h.0 rest) s here in
-    let more = subst (λ (ws : List NumberForm). AreFieldTexts origin ws others rest are.0) o are.1 in
-    let all : AreFieldTexts origin ways (kind ∷ others) left (h.0 ∷ are.0) = (rest, reads, more) in (
-      h.0 ∷ are.0,
-      subst (λ ks. AreFieldTexts origin ways ks left (h.0 ∷ are.0)) (sym e) all,
-      are.2 ∙ ap (λ (xs : List ℕ). xs ++ flat_map field_wire are.0) h.2 ∙ append_assoc old (field_wire h.0) (flat_map field_wire are.0),
+    → AppendsRest (ReadsField origin way kind start) mid new rest
+    → GoOn origin count len all first text old ways_after others rest new
+field_more origin count len all first text old ways ways_after way kinds others kind left start rest mid new so e s f o h =
+    let reads : ReadsField origin (first_form ways) kind (after_spaces left) h.0 rest = rw (sym f, sym s) h.1 in (
+      λ end are.
+          let more : AreFieldTexts origin (other_forms ways) others rest are.0 = rw (sym o) are.1 in
+          let here : AreFieldTexts origin ways kinds left (h.0 ∷ are.0) = rw e (rest, reads, more) in
+          so.0 end (
+            h.0 ∷ are.0,
+            here,
+            are.2 ∙ ap (λ (xs : List ℕ). xs ++ flat_map field_wire are.0) h.2 ∙ append_assoc mid (field_wire h.0) (flat_map field_wire are.0),
+          ),
+      λ x fails.
+          let more : FailsFields origin count len (other_forms ways) others rest x = rw (sym o) fails in
+          let here : FailsFields origin count len ways kinds left x = rw e (inr (h.0, rest, reads, more)) in so.1 x here,
     )
 
-pub field_later : (origin : Option NameValue) (count len : ℕ) (ways ways_after : List NumberForm) (way : NumberForm) (kinds others : List Kind) (kind : Kind) (left start rest old mid : List ℕ) (r : Result Unit DataTextError)
-    → kinds ≡ kind ∷ others → start ≡ after_spaces left → way ≡ first_form ways → ways_after ≡ other_forms ways
-    → AppendsRest (ReadsField origin way kind start) old mid (Some rest)
-    → IfErr r (λ e. (e ≡ Memory) ⊎ FailsFields origin count len ways_after others rest e) → IfErr r (λ e. (e ≡ Memory) ⊎ FailsFields origin count len ways kinds left e)
-field_later origin count len ways ways_after way kinds others kind left start rest old mid (Ok x) e s f o h fails = tt
-field_later origin count len ways ways_after way kinds others kind left start rest old mid (Err x) e s f o h (inl memory) = inl memory
-field_later origin count len ways ways_after way kinds others kind left start rest old mid (Err x) e s f o h (inr fails) =
-    let here = subst (λ (w : NumberForm). ReadsField origin w kind start h.0 rest) f h.1 in
-    let reads = subst (λ (xs : List ℕ). ReadsField origin (first_form ways) kind xs h.0 rest) s here in
-    let more = subst (λ (ws : List NumberForm). FailsFields origin count len ws others rest x) o fails in
-    let all : FailsFields origin count len ways (kind ∷ others) left x = inr (h.0, rest, reads, more) in
-    inr (subst (λ ks. FailsFields origin count len ways ks left x) (sym e) all)
+-- a field is missing
+pub field_missing : (origin : Option NameValue) (count len : ℕ) (all : List NumberForm) (first : List Kind) (text old : List ℕ)
+    (ways : List NumberForm) (way : NumberForm) (kinds others : List Kind) (kind : Kind) (left start mid : List ℕ) (e : DataTextError)
+    → GoOn origin count len all first text old ways kinds left mid → kinds ≡ kind ∷ others → start ≡ after_spaces left → way ≡ first_form ways
+    → ((value : FieldValue) (rest : List ℕ) → ¬ (ReadsField origin way kind start value rest))
+    → (e ≡ Memory) ⊎ ((wanted : Wanted) × IsWanted way kind start wanted × (e ≡ fault (count - length kinds) (len - length start) wanted))
+    → (e ≡ Memory) ⊎ FailsFields origin count len all first text e
+field_missing origin count len all first text old ways way kinds others kind left start mid e so is s f none (inl memory) = inl memory
+field_missing origin count len all first text old ways way kinds others kind left start mid e so is s f none (inr (wanted, wants, same)) =
+    inr (so.1 e (rw is (inl (rw (sym f, sym s) none, wanted, rw (sym f, sym s) wants, rw (is, s) at same))))

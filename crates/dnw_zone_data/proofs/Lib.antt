@@ -40,6 +40,9 @@ pub mod Lengths
 pub mod Pushed
 pub mod NamesRead
 pub mod WordParts
+pub mod FewDigits
+pub mod TextKinds
+mod PlainTexts
 mod UsualWords
 mod Marks
 mod Lanes

@@ -1,12 +1,12 @@
 -- The name that a word gives, by what is read of it.
 use Rattle.std.proofs.Common.{◌≡◌, ℕ, true, false, List, refl, sym, ap, ◌∙◌, subst}
 use Rattle.std.specs.Prelude.{Option, Some, None, Ok, Err}
-use Rattle.dnw_base.specs.Names.{AreLabels, NameValue, wire}
+use Rattle.dnw_base.specs.Names.{NameValue}
 use Rattle.dnw_name_form.proofs.Wires.{IsWire_wire, labels_of_wire}
 use Rattle.dnw_name_form.specs.Inside.WireBytes.{IsWire, labels_of}
 use Rattle.dnw_name_text.specs.NameReading.{name_of_text, origin_labels}
 use Rattle.dnw_name_text.specs.declared.error.NameTextError.{NameTextError}
-use Rattle.dnw_zone_data.specs.NameReading.{IsPlainName, named_at}
+use Rattle.dnw_zone_data.specs.NameReading.{IsNamedInFull, named_at}
 use Rattle.dnw_zone_data.specs.Words.{begins_with_quote}
 
 pub is_named : (origin : Option NameValue) (text : List ℕ) (labels : List (List ℕ)) → begins_with_quote text ≡ false
@@ -21,16 +21,11 @@ pub is_none : (origin : Option NameValue) (text : List ℕ) (error : NameTextErr
     → begins_with_quote text ≡ false → named_at origin text ≡ None
 is_none origin text error is plain = rw (plain, is) refl
 
--- a name that no origin completes
-pub plain_named : (text octets : List ℕ) (labels : List (List ℕ)) → begins_with_quote text ≡ false → AreLabels labels → octets ≡ wire labels
-    → ((origin : Option (List (List ℕ))) → name_of_text origin text ≡ Ok (record { is_fqdn = true; labels = labels })) → IsPlainName text octets
-plain_named text octets labels plain are is named = (labels, are, is, λ origin. is_named origin text labels plain (named (origin_labels origin)))
-
 -- its octets are those of a form
-pub plain_wire : (text octets : List ℕ) → IsPlainName text octets → IsWire octets
+pub plain_wire : (text octets : List ℕ) → IsNamedInFull text octets → IsWire octets
 plain_wire text octets (labels, are, is, named) = subst IsWire (sym is) (IsWire_wire labels are)
 
-pub plain_labels : (text octets : List ℕ) (form : List (List ℕ)) (origin : Option NameValue) → form ≡ labels_of octets → IsPlainName text octets
+pub plain_labels : (text octets : List ℕ) (form : List (List ℕ)) (origin : Option NameValue) → form ≡ labels_of octets → IsNamedInFull text octets
     → named_at origin text ≡ Some form
 plain_labels text octets form origin same (labels, are, is, named) =
     named origin ∙ ap Some (sym (same ∙ ap labels_of is ∙ labels_of_wire labels are.each))

@@ -1,9 +1,9 @@
 -- All words of a text are one field.
-use Rattle.std.proofs.Common.{◌≡◌, ◌≢◌, ◌≤◌, ◌<◌, ℕ, Bool, true, false, List, [], ◌∷◌, ◌++◌, length, refl, sym, ap, ◌∙◌, subst, arith, append_assoc, length-append}
+use Rattle.std.proofs.Common.{◌≡◌, ◌≢◌, ◌≤◌, ◌<◌, ℕ, true, List, [], ◌∷◌, ◌++◌, length, refl, sym, ap, ◌∙◌, subst, arith, append_assoc, length-append}
 use Rattle.dnw_zone_data.proofs.Strings.{last}
 use Rattle.std.proofs.lemmas.Option.{same_Some}
 use Rattle.dnw_base.specs.Limits.{max_data}
-use Rattle.std.specs.Prelude.{Option, Some, None, flat_map}
+use Rattle.std.specs.Prelude.{flat_map}
 use Rattle.dnw_base.specs.Names.{label_wire}
 use Rattle.dnw_data.specs.declared.kind.ListKind.TheVariants as lists
 use Rattle.dnw_data.specs.FieldWires.{field_wire}
@@ -11,16 +11,8 @@ use Rattle.dnw_data.specs.Values.{FieldValue, counted, texts, items}
 use Rattle.dnw_zone_data.specs.Words.{after_spaces, word, after_word}
 use Rattle.dnw_zone_data.specs.StringLists.{strings_wire, AreStringWords, AreTexts, AreTooMany, BeginWithStrings}
 use Rattle.dnw_zone_values.specs.Strings.{IsStringText}
-use Rattle.dnw_zone_data.specs.Inside.Reads.{AppendsRest, IsEndedBy}
 use Rattle.dnw_zone_data.specs.Appending.{AppendsOne}
 use Rattle.dnw_zone_data.specs.Inside.StringWords.{LeadTo}
-
-pub all_read : (Is : FieldValue → Type 0) (old new : List ℕ) (read : Bool) (rest : Option (List ℕ)) → IsEndedBy read rest → AppendsOne Is old new read
-    → AppendsRest (λ value r. Is value × (r ≡ [])) old new rest
-all_read Is old new true (Some r) e h = (h.0, (h.1, cc), h.2)
-all_read Is old new true None e h = absurd cc
-all_read Is old new false (Some r) e h = absurd cc
-all_read Is old new false None e h = λ value r own. h value own.0
 
 lead_more : (text : List ℕ) (done : List (List ℕ)) (left string : List ℕ) → LeadTo text done left → left ≢ [] → IsStringText (word left) string
     → LeadTo text (done ++ string ∷ []) (after_spaces (after_word left))

@@ -9,3 +9,4 @@ pub mod Wires
 pub mod WordParts
 pub mod PrefixWords
 pub mod BitWords
+pub mod OwnTexts

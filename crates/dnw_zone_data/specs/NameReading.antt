@@ -14,8 +14,8 @@ abbrev pub named_at : Option NameValue → List ℕ → Option (List (List ℕ))
 named_at origin text = if begins_with_quote text then None else qualified_labels (name_of_text (origin_labels origin) text)
 
 -- The octets are the wire form of the name that a word gives, whatever the origin is.
-abbrev pub IsPlainName : List ℕ → List ℕ → Type 0
-IsPlainName text octets =
+abbrev pub IsNamedInFull : List ℕ → List ℕ → Type 0
+IsNamedInFull text octets =
     (labels : List (List ℕ)) × AreLabels labels × (octets ≡ wire labels) × ((origin : Option NameValue) → named_at origin text ≡ Some labels)
 
 -- The wire form of the name is appended; or there is none, and nothing is.

@@ -17,6 +17,7 @@ ghost use Rattle.dnw_zone_data.specs.NumberForms.{number_forms};
 ghost use Rattle.dnw_zone_data.specs.DataTexts.{has_fields, has_own_form, has_field_text, is_blank, is_little_known, is_octets, is_unprinted, stand_in};
 ghost use Rattle.dnw_zone_data.specs.DataTexts.{without_space, ArePlain, IsPlainData, IsDataText, IsOwnText, IsTextOf, FailsGeneric, FailsText, LacksText};
 ghost use Rattle.dnw_zone_data.specs.Inside.Wires.{AppendsWires};
+ghost use Rattle.dnw_zone_data.specs.Inside.OwnTexts.{FailsOwn, generic_wanted};
 
 use crate::error::{DataTextError, Wanted};
 use crate::generic::{Generic, MARK, hex_words, parse_sized};
@@ -157,13 +158,6 @@ pub fn append_in_line(
         return append_generic(alloc, class, record_type, rest, len, out);
     }
     let kinds = fields_of(class, record_type, stand_in(start));
-    if !has_own_form(kinds) {
-        return Err(DataTextError::Wanted {
-            field: 0,
-            offset: len - start.len(),
-            wanted: Wanted::Generic,
-        });
-    }
     append_own(
         alloc,
         number_forms(record_type),
@@ -279,7 +273,9 @@ fn is_written_as(
     written == octets
 }
 
-/// Appends the octets of the fields that a text is, at the end of a line of this length.
+/// Appends the octets of the fields that a text is, at the end of a line of this length, if data of these kinds have a form of their own.
+/// No text is a field of a kind that has none. So of each kind it is asked only after an error.
+#[tactic(auto, using(crate::proofs::TextKinds::have_texts))]
 fn append_own(
     alloc: Global,
     forms: &[NumberForm],
@@ -290,15 +286,34 @@ fn append_own(
     out: &mut Vec<u8>,
 ) -> Result<(), DataTextError>
     requires within { length text.now ≤ len }
-    ensures { MatchResult result (λ _. (values : List FieldValue) × AreFieldTexts (option_copied origin.entry) forms.now kinds.now text.now values
+    ensures { MatchResult result (λ _. (has_own_form kinds.now ≡ true) × (values : List FieldValue) × AreFieldTexts (option_copied origin.entry) forms.now kinds.now text.now values
         × (out.new.items ≡ out.old.items ++ flat_map field_wire values))
-        (λ e. (e ≡ Memory) ⊎ FailsFields (option_copied origin.entry) (length kinds.now) len forms.now kinds.now text.now e) }
+        (FailsOwn (option_copied origin.entry) forms.now kinds.now len text.now) }
 {
+    if is_octets(kinds) {
+        return Err(generic_wanted(len, text));
+    }
     let place = Place {
         count: kinds.len(),
         len,
     };
-    parse_fields(alloc, place, forms, kinds, text, origin, out)
+    match parse_fields(alloc, place, forms, kinds, text, origin, out) {
+        Ok(()) => Ok(()),
+        Err(_) if !have_field_texts(kinds) => Err(generic_wanted(len, text)),
+        Err(error) => Err(error),
+    }
+}
+
+/// Returns the error at a text whose type has no form of its own.
+fn generic_wanted(len: usize, text: &[u8]) -> DataTextError
+    requires { length text.now ≤ len }
+    ensures { result ≡ generic_wanted len text.now }
+{
+    DataTextError::Wanted {
+        field: 0,
+        offset: len - after_spaces(text).len(),
+        wanted: Wanted::Generic,
+    }
 }
 
 /// Returns `true` for types of which many servers know no text.

@@ -1,9 +1,11 @@
 //! Names (RFC 1035, section 5.1).
-ghost use Rattle.std.specs.Prelude.{◌≡◌, ◌≤◌, ◌++◌, [], Some, None, take, IfOk, IfSome, MatchBool, string_bytes};
+ghost use Rattle.std.specs.Prelude.{◌≡◌, ◌≤◌, ◌++◌, ℕ, List, [], Some, None, take, IfOk, IfSome, IfNone, IsTrue, MatchBool, string_bytes};
 ghost use Rattle.dnw_base.specs.Limits.{max_name};
+ghost use Rattle.dnw_base.specs.Names.{AreLabels};
 ghost use Rattle.std.specs.Option.{option_copied};
 ghost use Rattle.dnw_name_text.specs.NameTexts.{full_name_text};
-ghost use Rattle.dnw_zone_data.specs.NameReading.{AppendsName, IsPlainName, named_at};
+ghost use Rattle.dnw_name_text.specs.PlainNames.{is_plain_name};
+ghost use Rattle.dnw_zone_data.specs.NameReading.{AppendsName, IsNamedInFull, named_at};
 
 use crate::words::begins_with_quote;
 use arrayvec::ArrayString;
@@ -73,23 +75,21 @@ fn append_other(
 }
 
 /// Puts the wire form of the fully qualified name that a word gives at the front of a room, and returns its length, if a dot is at the
-/// word's end and the octets of its labels stand for themselves, as most do. Else it returns `None`, and the room has any octets.
+/// word's end and the octets of its labels stand for themselves, as most do. It does so for the text of each such name but the root.
+/// Else it may return `None`, and the room has any octets then.
 #[inline(always)]
 pub fn put_plain(room: &mut [u8; MAX_NAME], text: &[u8]) -> Option<usize>
-    ensures { IfSome result (λ len. (len ≤ max_name) × IsPlainName text.now (take len room.new)) }
+    ensures some { IfSome result (λ len. (len ≤ max_name) × IsNamedInFull text.now (take len room.new)) }
+    ensures none { IfNone result ((labels : List (List ℕ)) → AreLabels labels → IsTrue (is_plain_name labels) → text.now ≡ full_name_text labels → ⊥) }
 {
+    let last = text.last()?;
+    if *last != b'.' {
+        return None;
+    }
     if begins_with_quote(text) {
         return None;
     }
-    match text.last() {
-        Some(b'.') => {
-            let Some(len) = put_plain_form(room, text) else {
-                return None;
-            };
-            Some(len)
-        }
-        _ => None,
-    }
+    put_plain_form(room, text)
 }
 
 /// Reads the name that a word gives into a form without labels, as `read_name` returns it. Returns `false` if it gives none; some labels

@@ -30,6 +30,9 @@ pub enum NumberForm {
     Protocol,
 }
 
+/// The greatest number that is given one more digit.
+const MOST_BEFORE_DIGIT: u32 = 429496728;
+
 /// The forms of the first fields of a SOA record.
 const SOA: &[NumberForm] = &[
     NumberForm::Decimal,
@@ -115,7 +118,41 @@ pub(crate) fn u32_in(form: NumberForm, text: &[u8]) -> Option<u32>
 }
 
 /// Returns the number up to `max` that a text is in a form.
+#[inline(always)]
+#[tactic(auto, using(crate::proofs::FewDigits::few_in, crate::proofs::FewDigits::many_in))]
 fn number_in(form: NumberForm, text: &[u8], max: u32) -> Option<u32>
+    ensures is { MatchOption result ((n : ℕ) → ¬ (IsNumberIn form max text.now n)) (IsNumberIn form max text.now) }
+    ensures few { IfSome result (λ n. n ≤ max) }
+{
+    if let Some(number) = few_digits(text) {
+        return if number <= max { Some(number) } else { None };
+    }
+    any_number_in(form, text, max)
+}
+
+/// Returns the number that a text is in each form, if it is digits alone and none of them brings it near 2^32, as most are.
+#[inline(always)]
+#[tactic(auto, using(crate::proofs::FewDigits::digits_more))]
+fn few_digits(text: &[u8]) -> Option<u32>
+    ensures { IfSome result (λ n. IsNumberText max_u32 text.now n × IsPeriod text.now n) }
+{
+    if text.is_empty() {
+        return None;
+    }
+    let mut number = 0;
+    let mut left = text;
+    while let Some((c, rest)) = left.split_first() {
+        if number > MOST_BEFORE_DIGIT || !c.is_ascii_digit() {
+            return None;
+        }
+        number = 10 * number + u32::from(*c - b'0');
+        left = rest;
+    }
+    Some(number)
+}
+
+/// Returns the number up to `max` that any text is in a form, as `number_in`.
+fn any_number_in(form: NumberForm, text: &[u8], max: u32) -> Option<u32>
     ensures is { MatchOption result ((n : ℕ) → ¬ (IsNumberIn form max text.now n)) (IsNumberIn form max text.now) }
     ensures few { IfSome result (λ n. n ≤ max) }
 {
@@ -143,7 +180,7 @@ fn period_in(text: &[u8], max: u32) -> Option<u32>
     ensures is { MatchOption result ((n : ℕ) → ¬ (IsNumberIn NumberForm.Period max text.now n)) (IsNumberIn NumberForm.Period max text.now) }
     ensures few { IfSome result (λ n. n ≤ max) }
 {
-    let seconds = period_seconds(text)?;
+    let seconds = whole_seconds(text)?;
     if seconds <= max { Some(seconds) } else { None }
 }
 
@@ -197,7 +234,18 @@ fn protocol_in(text: &[u8], max: u32) -> Option<u32>
 
 /// Returns the seconds of a period: a number of seconds, or groups of digits and a unit, as `1h30m`; the units are `s`, `m`, `h`, `d`
 /// and `w`, in either case. After groups with a unit none comes without.
+#[inline(always)]
 pub fn period_seconds(text: &[u8]) -> Option<u32>
+    ensures { MatchOption result ((n : ℕ) → ¬ (IsPeriod text.now n)) (IsPeriod text.now) }
+{
+    if let Some(seconds) = few_digits(text) {
+        return Some(seconds);
+    }
+    whole_seconds(text)
+}
+
+/// Returns the seconds of any period, as `period_seconds`.
+fn whole_seconds(text: &[u8]) -> Option<u32>
     ensures { MatchOption result ((n : ℕ) → ¬ (IsPeriod text.now n)) (IsPeriod text.now) }
 {
     if !is_whole(text) {

@@ -1,14 +1,17 @@
 //! Fields in texts.
-ghost use Rattle.std.specs.Prelude.{◌≡◌, ◌≤◌, ◌<◌, ◌+◌, ◌-◌, ◌⊎◌, ◌∷◌, ◌++◌, ℕ, List, Bool, [], length, take, drop, flat_map, IfOk, IfErr, IfSome, MatchOption};
-ghost use Rattle.std.specs.Option.{option_copied, option_map};
+ghost use Rattle.std.specs.Prelude.{◌≡◌, ◌≢◌, ◌≤◌, ◌<◌, ◌+◌, ◌-◌, ◌⊎◌, ◌∷◌, ◌++◌, ℕ, List, Bool, [], true, false, length, take, drop, flat_map, IfOk, IfErr, MatchResult};
+ghost use Rattle.std.specs.Option.{option_copied};
 ghost use Rattle.dnw_data.specs.Values.{FieldValue, counted, octets};
 ghost use Rattle.dnw_zone_values.specs.Strings.{IsLongText};
 ghost use Rattle.dnw_zone_data.specs.declared.error.DataTextError.TheVariants.{Memory};
 ghost use Rattle.dnw_zone_data.specs.Parsing.{IsNameField, IsNumberOf, AreOctetsOf, IsOctetsOf, IsIdentifierField, eui48, eui64, SpellsOctets, SpellsShown, IsWanted, IsWord, AreList, AllSpell, AreAll, AreThree, ReadsBy, ReadsThree, ReadsField, AreFieldTexts, FailsFields};
 ghost use Rattle.dnw_data.specs.FieldWires.{field_wire};
-ghost use Rattle.dnw_zone_data.specs.Inside.Reads.{AppendsRest, IsEndedBy};
+ghost use Rattle.dnw_zone_data.specs.Inside.Reads.{AppendsRest, LacksField};
 ghost use Rattle.dnw_zone_data.specs.Appending.{AppendsOne};
-ghost use Rattle.dnw_zone_data.specs.Words.{without_spaces};
+ghost use Rattle.dnw_zone_data.specs.Words.{after_spaces, without_spaces};
+ghost use Rattle.dnw_zone_data.specs.Faults.{fault};
+ghost use Rattle.dnw_zone_data.specs.declared.error.Wanted.{Wanted};
+ghost use Rattle.dnw_zone_data.specs.declared.error.Wanted.TheVariants.{End};
 
 use crate::bitmaps::parse_bits;
 use crate::error::{DataTextError, Wanted, wanted_of};
@@ -39,6 +42,26 @@ pub(crate) struct Place {
     pub(crate) len: usize,
 }
 
+/// Why a field is not read.
+#[derive(Clone, Copy)]
+pub(crate) enum Refused {
+    /// The text is none of its kind.
+    Text,
+    /// An allocation failed.
+    Memory,
+}
+
+impl From<AllocError> for Refused {
+    ghost use Rattle.std.specs.Prelude.{◌≡◌};
+    ghost use Rattle.dnw_zone_data.specs.declared.parsing.Refused.TheVariants.{Memory};
+
+    ghost from_gives = { λ _ e. e ≡ Memory };
+
+    fn from(_: AllocError) -> Self {
+        Refused::Memory
+    }
+}
+
 /// Appends the octets of the fields that are left, whose numbers are in these forms.
 pub(crate) fn parse_fields(
     alloc: Global,
@@ -55,30 +78,64 @@ pub(crate) fn parse_fields(
         × (out.new.items ≡ out.old.items ++ flat_map field_wire values)) }
     ensures err { IfErr result (λ e. (e ≡ Memory) ⊎ FailsFields (option_copied origin.entry) place.count place.len forms.now kinds.now left.now e) }
 {
-    let left = after_spaces(left);
-    let field = place.count - kinds.len();
-    let offset = place.len - left.len();
-    let Some((kind, others)) = kinds.split_first() else {
-        if left.is_empty() {
-            return Ok(());
+    let mut forms = forms;
+    let mut kinds = kinds;
+    let mut left = left;
+    while let Some((kind, others)) = kinds.split_first() {
+        let start = after_spaces(left);
+        let (form, other_forms) = next_form(forms);
+        match parse_field(alloc, form, *kind, start, origin, out) {
+            Ok(rest) => left = rest,
+            Err(Refused::Text) => {
+                return Err(not_wanted(alloc, place, kinds.len(), form, *kind, start));
+            }
+            Err(Refused::Memory) => return Err(DataTextError::Memory),
         }
-        let wanted = Wanted::End;
-        return Err(DataTextError::Wanted {
-            field,
-            offset,
+        kinds = others;
+        forms = other_forms;
+    }
+    end_of_fields(place, left)
+}
+
+/// Fails if there is more text after the last field.
+fn end_of_fields(place: Place, left: &[u8]) -> Result<(), DataTextError>
+    requires { length left.now ≤ place.len }
+    ensures { MatchResult result (λ _. after_spaces left.now ≡ [])
+        (λ e. (after_spaces left.now ≢ []) × (e ≡ fault place.count (place.len - length (after_spaces left.now)) End)) }
+{
+    let rest = after_spaces(left);
+    if rest.is_empty() {
+        return Ok(());
+    }
+    Err(DataTextError::Wanted {
+        field: place.count,
+        offset: place.len - rest.len(),
+        wanted: Wanted::End,
+    })
+}
+
+/// Returns the error at a field of a kind, whose number is in a form, if the text is none. So many fields are left, with this one.
+fn not_wanted(
+    alloc: Global,
+    place: Place,
+    count: usize,
+    form: NumberForm,
+    kind: Kind,
+    left: &[u8],
+) -> DataTextError
+    requires count { count ≤ place.count }
+    requires within { length left.now ≤ place.len }
+    ensures { (result ≡ Memory) ⊎ ((wanted : Wanted) × IsWanted form kind left.now wanted
+        × (result ≡ fault (place.count - count) (place.len - length left.now) wanted)) }
+{
+    match wanted_at(alloc, form, kind, left) {
+        Ok(wanted) => DataTextError::Wanted {
+            field: place.count - count,
+            offset: place.len - left.len(),
             wanted,
-        });
-    };
-    let (form, other_forms) = next_form(forms);
-    let Some(rest) = parse_field(alloc, form, *kind, left, origin, out)? else {
-        let wanted = wanted_at(alloc, form, *kind, left)?;
-        return Err(DataTextError::Wanted {
-            field,
-            offset,
-            wanted,
-        });
-    };
-    parse_fields(alloc, place, other_forms, others, rest, origin, out)
+        },
+        Err(_) => DataTextError::Memory,
+    }
 }
 
 /// Returns what is wanted of a field of a kind, whose number is in a form, in place of a text that is none.
@@ -92,7 +149,7 @@ fn wanted_at(alloc: Global, form: NumberForm, kind: Kind, left: &[u8]) -> Result
     }
 }
 
-/// Appends the octets of the field that a text begins with, whose number is in a form. Returns what is after it, or `None` if it is none of this kind.
+/// Appends the octets of the field that a text begins with, whose number is in a form. Returns what is after it.
 #[inline(always)]
 fn parse_field<'t>(
     alloc: Global,
@@ -101,14 +158,14 @@ fn parse_field<'t>(
     left: &'t [u8],
     origin: Option<&Name>,
     out: &mut Vec<u8>,
-) -> Result<Option<&'t [u8]>, AllocError>
-    ensures reads { IfOk result (λ rest. AppendsRest (ReadsField (option_copied origin.entry) form kind left.now) out.old.items out.new.items (option_map (λ r. r.now) rest)) }
-    ensures within { IfOk result (λ rest. IfSome rest (λ r. length r.now ≤ length left.now)) }
+) -> Result<&'t [u8], Refused>
+    ensures reads { MatchResult result (λ rest. AppendsRest (ReadsField (option_copied origin.entry) form kind left.now) out.old.items out.new.items rest.now) (LacksField (ReadsField (option_copied origin.entry) form kind left.now)) }
+    ensures within { IfOk result (λ rest. length rest.now ≤ length left.now) }
 {
     parse_by(alloc, extent_of(kind), form, kind, left, origin, out)
 }
 
-/// Appends the octets of the field that so many words are, whose number is in a form. Returns what is after them, or `None` if they are none of this kind.
+/// Appends the octets of the field that so many words are, whose number is in a form. Returns what is after them.
 #[inline(always)]
 fn parse_by<'t>(
     alloc: Global,
@@ -118,42 +175,48 @@ fn parse_by<'t>(
     left: &'t [u8],
     origin: Option<&Name>,
     out: &mut Vec<u8>,
-) -> Result<Option<&'t [u8]>, AllocError>
-    ensures reads { IfOk result (λ rest. AppendsRest (ReadsBy extent (option_copied origin.entry) form kind left.now) out.old.items out.new.items (option_map (λ r. r.now) rest)) }
-    ensures within { IfOk result (λ rest. IfSome rest (λ r. length r.now ≤ length left.now)) }
+) -> Result<&'t [u8], Refused>
+    ensures reads { MatchResult result (λ rest. AppendsRest (ReadsBy extent (option_copied origin.entry) form kind left.now) out.old.items out.new.items rest.now) (LacksField (ReadsBy extent (option_copied origin.entry) form kind left.now)) }
+    ensures within { IfOk result (λ rest. length rest.now ≤ length left.now) }
 {
     match extent {
-        Extent::All => parse_all(alloc, kind, left, origin, out),
+        Extent::All => {
+            if parse_all(alloc, kind, left, origin, out)? {
+                Ok(&[])
+            } else {
+                Err(Refused::Text)
+            }
+        }
         Extent::Three => parse_three(alloc, kind, left, origin, out),
         Extent::One => {
             let (word, rest) = split_word(left);
             if parse_word(alloc, form, kind, word, origin, out)? {
-                Ok(Some(rest))
+                Ok(rest)
             } else {
-                Ok(None)
+                Err(Refused::Text)
             }
         }
     }
 }
 
-/// Appends the octets of the field that three words are. Returns what is after them, or `None` if they are none of this kind.
+/// Appends the octets of the field that three words are. Returns what is after them.
 fn parse_three<'t>(
     alloc: Global,
     kind: Kind,
     left: &'t [u8],
     origin: Option<&Name>,
     out: &mut Vec<u8>,
-) -> Result<Option<&'t [u8]>, AllocError>
-    ensures reads { IfOk result (λ rest. AppendsRest (ReadsThree (option_copied origin.entry) kind left.now) out.old.items out.new.items (option_map (λ r. r.now) rest)) }
-    ensures within { IfOk result (λ rest. IfSome rest (λ r. length r.now ≤ length left.now)) }
+) -> Result<&'t [u8], Refused>
+    ensures reads { MatchResult result (λ rest. AppendsRest (ReadsThree (option_copied origin.entry) kind left.now) out.old.items out.new.items rest.now) (LacksField (ReadsThree (option_copied origin.entry) kind left.now)) }
+    ensures within { IfOk result (λ rest. length rest.now ≤ length left.now) }
 {
     let (first, after_first) = split_word(left);
     let (second, after_second) = split_word(after_spaces(after_first));
     let (third, rest) = split_word(after_spaces(after_second));
     if parse_words(alloc, kind, first, second, third, origin, out)? {
-        Ok(Some(rest))
+        Ok(rest)
     } else {
-        Ok(None)
+        Err(Refused::Text)
     }
 }
 
@@ -175,30 +238,22 @@ fn parse_words(
     }
 }
 
-/// Appends the octets of the field that all words are. Returns what is after it, or `None` if they are none of this kind.
-fn parse_all<'t>(
+/// Appends the octets of the field that all words are. Returns `false` if they are none of this kind.
+fn parse_all(
     alloc: Global,
     kind: Kind,
-    left: &'t [u8],
+    left: &[u8],
     origin: Option<&Name>,
     out: &mut Vec<u8>,
-) -> Result<Option<&'t [u8]>, AllocError>
-    ensures reads { IfOk result (λ rest. AppendsRest (λ value r. AreAll (option_copied origin.entry) kind left.now value × (r ≡ [])) out.old.items out.new.items (option_map (λ r. r.now) rest)) }
-    ensures within { IfOk result (λ rest. IfSome rest (λ r. length r.now ≤ length left.now)) }
+) -> Result<bool, AllocError>
+    ensures { IfOk result (AppendsOne (AreAll (option_copied origin.entry) kind left.now) out.old.items out.new.items) }
 {
     match kind {
-        Kind::Octets(shown) => Ok(ended(parse_all_octets(alloc, shown, left, out)?)),
-        Kind::Shaped(shape) => Ok(ended(parse_whole(shape, left, out)?)),
-        Kind::List(list) => Ok(ended(parse_list(alloc, list, left, origin, out)?)),
-        _ => Ok(None),
+        Kind::Octets(shown) => parse_all_octets(alloc, shown, left, out),
+        Kind::Shaped(shape) => parse_whole(shape, left, out),
+        Kind::List(list) => parse_list(alloc, list, left, origin, out),
+        _ => Ok(false),
     }
-}
-
-/// Returns nothing that is left, if all was read.
-fn ended<'t>(read: bool) -> Option<&'t [u8]>
-    ensures { IsEndedBy read (option_map (λ r. r.now) result) }
-{
-    if read { Some(&[]) } else { None }
 }
 
 /// Appends the octets that all words write as one, or the bitmap of the numbers that they are. Returns `false` if they write none.

@@ -1,8 +1,13 @@
-use Rattle.std.proofs.Common.{arith, sym, ◌∙◌}
-use Rattle.dnw_zone_data.proofs.NamesRead.{plain_named}
+use Rattle.std.proofs.Common.{sym, ap, ◌∙◌}
+use Rattle.std.specs.Option.{option_copied}
+use Rattle.std.proofs.lemmas.Bool.{false≢true}
+use Rattle.dnw_zone_data.proofs.PlainTexts.{begins_plain, ends_plain}
 use Rattle.dnw_zone_data.proofs.name.put_plain.Goals as goal
 
-pub returns-in-Some : goal.returns-in-Some
-returns-in-Some c =
-    let (labels, is, size, are, named) = c.in-Some.ensures.some in
-    (omega (arith, size, are.fit), plain_named c.args.text.now _ labels (sym c.begins_with_quote.ensures ∙ c.if-begins_with_quote.false) are is named)
+pub returns-then-last-ne46-clause-none : goal.returns-then-last-ne46-clause-none
+returns-then-last-ne46-clause-none c labels are plain is =
+    c.if-last-ne46.true (ends_plain c.args.text.now labels c.in_ok-last.last.now plain is (sym (ap option_copied c.in_ok-last.was) ∙ c.last.ensures.value))
+
+pub returns-then-begins_with_quote-clause-none : goal.returns-then-begins_with_quote-clause-none
+returns-then-begins_with_quote-clause-none c labels are plain is =
+    false≢true (sym (begins_plain c.args.text.now labels are plain is) ∙ sym c.begins_with_quote.ensures ∙ c.if-begins_with_quote.true)
