@@ -6,4 +6,3 @@ pub mod Runs
 pub mod Windows
 pub mod DataLengths
 mod UsualWords
-mod Seconds

@@ -73,9 +73,6 @@ impl From<AllocError> for RecordLineError {
 /// The octets that a record has room for at first. Most have fewer.
 const FIRST_ROOM: usize = 256;
 
-/// The greatest number of seconds that is given one more digit.
-const MOST_SECONDS: u32 = 429496728;
-
 /// What a line has between the owner and the data.
 #[derive(Clone, Copy)]
 pub(crate) struct LineHead {
@@ -282,29 +279,7 @@ pub fn next_word(text: &[u8]) -> (&[u8], &[u8])
 pub fn ttl_of(word: &[u8]) -> Option<u32>
     ensures { MatchOption result ((n : ℕ) → ¬ (IsTtlWord word.now n)) (IsTtlWord word.now) }
 {
-    if let Some(seconds) = few_seconds(word) {
-        return Some(seconds);
-    }
     period_seconds(word)
-}
-
-/// Returns the seconds that a word is, if it is digits alone and no digit brings them near 2^32, as those of most times to live.
-fn few_seconds(word: &[u8]) -> Option<u32>
-    ensures { IfSome result (IsTtlWord word.now) }
-{
-    if word.is_empty() {
-        return None;
-    }
-    let mut seconds = 0;
-    let mut left = word;
-    while let Some((c, rest)) = left.split_first() {
-        if seconds > MOST_SECONDS || !c.is_ascii_digit() {
-            return None;
-        }
-        seconds = 10 * seconds + u32::from(*c - b'0');
-        left = rest;
-    }
-    Some(seconds)
 }
 
 /// Returns the class that a word is. `*` is none: it asks for all classes.
@@ -326,7 +301,10 @@ pub fn class_of(word: &[u8]) -> Option<DNSClass>
 fn is_internet(word: &[u8]) -> bool
     ensures { result ≡ true → IsClassWord word.now DNSClass.IN }
 {
-    word == b"IN".as_slice()
+    match word {
+        [first, second] => *first == b'I' && *second == b'N',
+        _ => false,
+    }
 }
 
 /// Returns the octets of the data that a text is.
