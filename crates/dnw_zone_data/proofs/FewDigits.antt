@@ -1,17 +1,27 @@
 -- Digits alone are the same number in each form.
-use Rattle.std.proofs.Common.{◌≡◌, ℕ, ◌+◌, ◌-◌, ◌*◌, ◌<◌, ◌≤◌, true, List, [], ◌∷◌, length, refl, sym, ap, ◌∙◌, arith}
+use Rattle.std.proofs.Common.{◌≡◌, ◌≢◌, ℕ, ◌+◌, ◌-◌, ◌*◌, ◌<◌, ◌≤◌, Bool, true, false, List, [], ◌∷◌, ◌++◌, length, refl, sym, ap, subst, ◌∙◌, arith, append_assoc, append-nil, length-append}
 use Rattle.std.specs.Prelude.{Option, Some, None, option_map}
 use Rattle.std.specs.Char.{digit_value, is_ascii_digit}
 use Rattle.std.specs.List.{list_all}
 use Rattle.std.specs.Str.Parse.{AllDigits, digits_value, digits_value_after}
-use Rattle.std.proofs.lemmas.Bool.{and_parts}
+use Rattle.std.proofs.lemmas.Bool.{and_parts, false≢true}
+use Rattle.std.proofs.lemmas.List.{take-append-drop}
 use Rattle.std.proofs.lemmas.Option.{same_Some}
 use Rattle.dnw_zone_lexer.specs.Times.{groups_after, max_ttl, total_seconds}
 use Rattle.dnw_zone_values.specs.Mnemonics.{IsNumberOrName, algorithm_named, begins_with_digit, certificate_type_named, protocol_named, scheme_named}
-use Rattle.dnw_zone_values.specs.Numbers.{max_u32, IsNumberText}
+use Rattle.dnw_zone_values.specs.Numbers.{max_u8, max_u16, max_u32, IsNumberText}
+use Rattle.dnw_base.specs.Names.{NameValue}
+use Rattle.dnw_data.specs.declared.kind.Kind.{Kind}
+use Rattle.dnw_data.specs.declared.kind.Kind.TheVariants.{U8, U16, U32}
+use Rattle.dnw_data.specs.Values.{u8, u16, u32}
+use Rattle.dnw_zone_data.specs.Appending.{AppendsOne}
+use Rattle.dnw_zone_data.specs.Inside.Reads.{HasNumber, is_number}
+use Rattle.dnw_zone_data.specs.Parsing.{IsWord}
 use Rattle.dnw_zone_data.specs.declared.number_form.NumberForm.{NumberForm}
 use Rattle.dnw_zone_data.specs.declared.number_form.NumberForm.TheVariants.{Decimal, Period, Algorithm, CertificateType, Scheme, Protocol}
 use Rattle.dnw_zone_data.specs.NumberForms.{IsNumberIn, IsPeriod}
+use Rattle.dnw_zone_data.specs.Words.{after_word, is_end, word, word_len}
+use Rattle.dnw_zone_data.proofs.Plain.{all_plain, is_plain, plain_after, plain_word}
 
 -- The digits of a text up to what is left of it write this number.
 pub record AreDigits (text : List ℕ) (n : ℕ) (left : List ℕ) : Type 0 where
@@ -35,7 +45,7 @@ digits_more text left rest n c first is so =
       all = λ others. so.all (rw first (few, others));
     }
 
-pub digits_all : (text left : List ℕ) (n : ℕ) → 0 < length text → length left ≡ 0 → n ≤ max_ttl → AreDigits text n left → IsNumberText max_u32 text n × IsPeriod text n
+digits_all : (text left : List ℕ) (n : ℕ) → 0 < length text → length left ≡ 0 → n ≤ max_ttl → AreDigits text n left → IsNumberText max_u32 text n × IsPeriod text n
 digits_all [] left n some none few so = absurd (omega (arith, some))
 digits_all (c ∷ cs) (d ∷ left) n some none few so = absurd (omega (arith, none))
 digits_all (c ∷ cs) [] n some none few so =
@@ -47,6 +57,51 @@ digits_all (c ∷ cs) [] n some none few so =
       ((some, so.all tt), so.value, few),
       (ap (option_map total_seconds) (first ∙ so.group) ∙ ap Some one, few, rw digits refl),
     )
+
+-- ---- the first word
+
+-- A text up to what is left of it is digits that write this number.
+pub record NumberAt (text left : List ℕ) (n : ℕ) : Type 0 where
+  pub front : List ℕ
+  pub whole : text ≡ front ++ left
+  pub value : (rest : List ℕ) → AreDigits (front ++ rest) n rest
+
+pub number_none : (text : List ℕ) → NumberAt text text 0
+number_none text = record { front = []; whole = refl; value = λ rest. record { group = refl; value = refl; digits = λ is. is; all = λ is. is } }
+
+-- one digit more
+pub number_more : (text left rest : List ℕ) (n c : ℕ) → left ≡ c ∷ rest → is_ascii_digit c ≡ true → NumberAt text left n
+    → NumberAt text rest (10 * n + (c - 48))
+number_more text left rest n c first is so = record {
+  front = so.front ++ c ∷ [];
+  whole = so.whole ∙ ap (λ (xs : List ℕ). so.front ++ xs) first ∙ sym (append_assoc so.front (c ∷ []) rest);
+  value = λ others. rw (append_assoc so.front (c ∷ []) others) (digits_more (so.front ++ c ∷ others) (c ∷ others) others n c refl is (so.value (c ∷ others)));
+}
+
+plain_digit : (c : ℕ) → is_ascii_digit c ≡ true → is_plain c ≡ true
+plain_digit c is = grind arith
+
+plain_digits : (front : List ℕ) → list_all is_ascii_digit front ≡ true → all_plain front ≡ true
+plain_digits [] all = refl
+plain_digits (c ∷ front) all =
+    let parts = and_parts (is_ascii_digit c) (list_all is_ascii_digit front) all in rw (plain_digit c parts.0) (plain_digits front parts.1)
+
+pub number_end : (text left : List ℕ) (n : ℕ) → NumberAt text left n → length left ≢ length text → is_end left ≡ true → n ≤ max_ttl
+    → (IsNumberText max_u32 (word text) n × IsPeriod (word text) n) × (left ≡ after_word text)
+number_end text left n so less end few =
+    let front : List ℕ = so.front in
+    let all : AreDigits front n [] = subst (λ (xs : List ℕ). AreDigits xs n []) (append-nil front) (so.value []) in
+    let plain = plain_digits front (all.digits refl) in
+    let same : word text ≡ front = ap word so.whole ∙ plain_word front left plain end in
+    let rest : after_word text ≡ left = ap after_word so.whole ∙ plain_after front left plain end in
+    let some : 0 < length front = omega (arith, less, ap length so.whole, length-append front left) in
+    (rw same (digits_all front [] n some refl few all), sym rest)
+
+-- a word that nothing is after
+pub whole_word : (text rest : List ℕ) → rest ≡ after_word text → length rest ≡ 0 → word text ≡ text
+whole_word text [] is none =
+    sym (append-nil (word text)) ∙ ap (λ (xs : List ℕ). word text ++ xs) is ∙ take-append-drop (word_len text) text
+whole_word text (c ∷ rest) is none = absurd (omega (arith, none))
 
 -- ---- each form
 
@@ -71,7 +126,7 @@ same max n m text is own = omega (arith, sym is.1 ∙ own.1, own.2)
 not_named : (of : List ℕ → Option ℕ) (max n m : ℕ) (text : List ℕ) → IsNumberText max_u32 text n → IsNumberOrName of max text m → n ≤ max
 not_named of max n m text is own = same max n m text is (rw (begins max_u32 n text is) at own)
 
-within : (way : NumberForm) (max n m : ℕ) (text : List ℕ) → IsNumberText max_u32 text n × IsPeriod text n → IsNumberIn way max text m → n ≤ max
+pub within : (way : NumberForm) (max n m : ℕ) (text : List ℕ) → IsNumberText max_u32 text n × IsPeriod text n → IsNumberIn way max text m → n ≤ max
 within Decimal max n m text is own = same max n m text is.0 own
 within Period max n m text is own = omega (arith, same_Some n m (sym is.1.0 ∙ own.0.0), own.1)
 within Algorithm max n m text is own = not_named algorithm_named max n m text is.0 own
@@ -79,5 +134,15 @@ within CertificateType max n m text is own = not_named certificate_type_named ma
 within Scheme max n m text is own = not_named scheme_named max n m text is.0 own
 within Protocol max n m text is own = not_named protocol_named max n m text is.0 own
 
-pub many_in : (way : NumberForm) (max n : ℕ) (text : List ℕ) → IsNumberText max_u32 text n × IsPeriod text n → max < n → (m : ℕ) → ¬ (IsNumberIn way max text m)
-many_in way max n text is many m own = omega (arith, many, within way max n m text is own)
+-- ---- fields
+
+-- digits alone are the field of a number, whatever its form
+pub number_field : (origin : Option NameValue) (way : NumberForm) (kind : Kind) (text old new : List ℕ) (n : ℕ) (read : Bool) → is_number kind ≡ true
+    → IsNumberText max_u32 text n × IsPeriod text n → AppendsOne (HasNumber kind n) old new read → AppendsOne (IsWord origin way kind text) old new read
+number_field origin way U8 text old new n true number is h = (h.0, (n, few_in way max_u8 n text is h.1.0, h.1.1), h.2)
+number_field origin way U16 text old new n true number is h = (h.0, (n, few_in way max_u16 n text is h.1.0, h.1.1), h.2)
+number_field origin way U32 text old new n true number is h = (h.0, (n, few_in way max_u32 n text is h.1.0, h.1.1), h.2)
+number_field origin way U8 text old new n false number is h = λ value own. h (u8 n) (within way max_u8 n own.0 text is own.1, refl)
+number_field origin way U16 text old new n false number is h = λ value own. h (u16 n) (within way max_u16 n own.0 text is own.1, refl)
+number_field origin way U32 text old new n false number is h = λ value own. h (u32 n) (within way max_u32 n own.0 text is own.1, refl)
+number_field origin way kind text old new n read number is h = absurd (false≢true number)

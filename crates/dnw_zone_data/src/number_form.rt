@@ -1,10 +1,11 @@
 //! How the numbers in data of each type are written.
-ghost use Rattle.std.specs.Prelude.{◌≡◌, ◌≤◌, ℕ, IfSome, MatchOption};
+ghost use Rattle.std.specs.Prelude.{◌≡◌, ◌≤◌, ℕ, true, length, IfSome, MatchOption};
 ghost use Rattle.std.specs.Char.{is_ascii_digit};
 ghost use Rattle.std.specs.List.{list_all};
 ghost use Rattle.dnw_base.specs.RecordTypes.{type_code};
 ghost use Rattle.dnw_zone_values.specs.Numbers.{max_u8, max_u16, max_u32, IsNumberText};
 ghost use Rattle.dnw_zone_data.specs.NumberForms.{ends_with_digit, first_form, is_one_of, is_whole, number_forms, other_forms, with_algorithm_second, with_algorithm_third, IsNumberIn, IsPeriod};
+ghost use Rattle.dnw_zone_data.specs.Words.{after_word, is_end, word};
 
 use dnw_base::record_type::RecordType;
 use dnw_zone_lexer::ttl::ttl_seconds;
@@ -118,41 +119,7 @@ pub(crate) fn u32_in(form: NumberForm, text: &[u8]) -> Option<u32>
 }
 
 /// Returns the number up to `max` that a text is in a form.
-#[inline(always)]
-#[tactic(auto, using(crate::proofs::FewDigits::few_in, crate::proofs::FewDigits::many_in))]
 fn number_in(form: NumberForm, text: &[u8], max: u32) -> Option<u32>
-    ensures is { MatchOption result ((n : ℕ) → ¬ (IsNumberIn form max text.now n)) (IsNumberIn form max text.now) }
-    ensures few { IfSome result (λ n. n ≤ max) }
-{
-    if let Some(number) = few_digits(text) {
-        return if number <= max { Some(number) } else { None };
-    }
-    any_number_in(form, text, max)
-}
-
-/// Returns the number that a text is in each form, if it is digits alone and none of them brings it near 2^32, as most are.
-#[inline(always)]
-#[tactic(auto, using(crate::proofs::FewDigits::digits_more))]
-fn few_digits(text: &[u8]) -> Option<u32>
-    ensures { IfSome result (λ n. IsNumberText max_u32 text.now n × IsPeriod text.now n) }
-{
-    if text.is_empty() {
-        return None;
-    }
-    let mut number = 0;
-    let mut left = text;
-    while let Some((c, rest)) = left.split_first() {
-        if number > MOST_BEFORE_DIGIT || !c.is_ascii_digit() {
-            return None;
-        }
-        number = 10 * number + u32::from(*c - b'0');
-        left = rest;
-    }
-    Some(number)
-}
-
-/// Returns the number up to `max` that any text is in a form, as `number_in`.
-fn any_number_in(form: NumberForm, text: &[u8], max: u32) -> Option<u32>
     ensures is { MatchOption result ((n : ℕ) → ¬ (IsNumberIn form max text.now n)) (IsNumberIn form max text.now) }
     ensures few { IfSome result (λ n. n ≤ max) }
 {
@@ -232,16 +199,55 @@ fn protocol_in(text: &[u8], max: u32) -> Option<u32>
     if number <= max { Some(number) } else { None }
 }
 
+/// Returns the number that the first word of a text is in each form, and what is after it, if it is digits up to a space or the text's
+/// end and none of them brings it near 2^32, as most numbers are. So the word's end need not be looked for.
+#[inline(always)]
+#[tactic(auto, using(crate::proofs::FewDigits::number_more))]
+pub fn first_number(text: &[u8]) -> Option<(u32, &[u8])>
+    ensures number { IfSome result (λ r. IsNumberText max_u32 (word text.now) r.0 × IsPeriod (word text.now) r.0) }
+    ensures rest { IfSome result (λ r. r.1.now ≡ after_word text.now) }
+    ensures within { IfSome result (λ r. length r.1.now ≤ length text.now) }
+{
+    let mut number = 0;
+    let mut left = text;
+    while let Some((c, rest)) = left.split_first() {
+        if number > MOST_BEFORE_DIGIT || !c.is_ascii_digit() {
+            break;
+        }
+        number = 10 * number + u32::from(*c - b'0');
+        left = rest;
+    }
+    if left.len() == text.len() {
+        return None;
+    }
+    if !is_at_end(left) {
+        return None;
+    }
+    Some((number, left))
+}
+
+/// Returns `true` if a word ends before a text: the text is empty, or begins with a space.
+#[inline(always)]
+fn is_at_end(text: &[u8]) -> bool
+    ensures { result ≡ true → is_end text.now ≡ true }
+{
+    match text.first() {
+        Some(first) => *first == b' ',
+        None => true,
+    }
+}
+
 /// Returns the seconds of a period: a number of seconds, or groups of digits and a unit, as `1h30m`; the units are `s`, `m`, `h`, `d`
 /// and `w`, in either case. After groups with a unit none comes without.
 #[inline(always)]
+#[tactic(auto, using(crate::proofs::FewDigits::whole_word))]
 pub fn period_seconds(text: &[u8]) -> Option<u32>
     ensures { MatchOption result ((n : ℕ) → ¬ (IsPeriod text.now n)) (IsPeriod text.now) }
 {
-    if let Some(seconds) = few_digits(text) {
-        return Some(seconds);
+    match first_number(text) {
+        Some((seconds, rest)) if rest.is_empty() => Some(seconds),
+        _ => whole_seconds(text),
     }
-    whole_seconds(text)
 }
 
 /// Returns the seconds of any period, as `period_seconds`.

@@ -6,10 +6,11 @@ ghost use Rattle.dnw_zone_values.specs.Strings.{IsLongText};
 ghost use Rattle.dnw_zone_data.specs.declared.error.DataTextError.TheVariants.{Memory};
 ghost use Rattle.dnw_zone_data.specs.Parsing.{IsNameField, IsNumberOf, AreOctetsOf, IsOctetsOf, IsIdentifierField, eui48, eui64, SpellsOctets, SpellsShown, IsWanted, IsWord, AreList, AllSpell, AreAll, AreThree, ReadsBy, ReadsThree, ReadsField, AreFieldTexts, FailsFields};
 ghost use Rattle.dnw_data.specs.FieldWires.{field_wire};
-ghost use Rattle.dnw_zone_data.specs.Inside.Reads.{AppendsRest, LacksField};
+ghost use Rattle.dnw_zone_data.specs.Inside.Reads.{AppendsRest, HasNumber, LacksField, is_number};
 ghost use Rattle.dnw_zone_data.specs.Appending.{AppendsOne};
 ghost use Rattle.dnw_zone_data.specs.Words.{after_spaces, without_spaces};
 ghost use Rattle.dnw_zone_data.specs.Faults.{fault};
+ghost use Rattle.dnw_zone_data.specs.declared.extent.Extent.TheVariants.{One};
 ghost use Rattle.dnw_zone_data.specs.declared.error.Wanted.{Wanted};
 ghost use Rattle.dnw_zone_data.specs.declared.error.Wanted.TheVariants.{End};
 
@@ -20,7 +21,7 @@ use crate::gateways::{parse_shape, parse_whole};
 use crate::locators::{parse_locator, parse_node_number, parse_nsap};
 use crate::name::append_name;
 use crate::name_lists::parse_names;
-use crate::number_form::{NumberForm, next_form, u8_in, u16_in, u32_in};
+use crate::number_form::{NumberForm, first_number, next_form, u8_in, u16_in, u32_in};
 use crate::params::{params_wanted, parse_params};
 use crate::prefixes::parse_prefixes;
 use crate::spelling::{pairs_of, push_octets, push_spelled, push_text};
@@ -188,15 +189,60 @@ fn parse_by<'t>(
             }
         }
         Extent::Three => parse_three(alloc, kind, left, origin, out),
-        Extent::One => {
-            let (word, rest) = split_word(left);
-            if parse_word(alloc, form, kind, word, origin, out)? {
+        Extent::One => parse_one(alloc, form, kind, left, origin, out),
+    }
+}
+
+/// Appends the octets of the field that one word is, whose number is in a form. Returns what is after it.
+#[inline(always)]
+fn parse_one<'t>(
+    alloc: Global,
+    form: NumberForm,
+    kind: Kind,
+    left: &'t [u8],
+    origin: Option<&Name>,
+    out: &mut Vec<u8>,
+) -> Result<&'t [u8], Refused>
+    ensures reads { MatchResult result (λ rest. AppendsRest (ReadsBy One (option_copied origin.entry) form kind left.now) out.old.items out.new.items rest.now) (LacksField (ReadsBy One (option_copied origin.entry) form kind left.now)) }
+    ensures within { IfOk result (λ rest. length rest.now ≤ length left.now) }
+{
+    if is_number(kind) {
+        if let Some((number, rest)) = first_number(left) {
+            return if push_number(kind, number, out)? {
                 Ok(rest)
             } else {
                 Err(Refused::Text)
-            }
+            };
         }
     }
+    let (word, rest) = split_word(left);
+    if parse_word(alloc, form, kind, word, origin, out)? {
+        Ok(rest)
+    } else {
+        Err(Refused::Text)
+    }
+}
+
+/// Returns `true` for numbers of one, two and four octets.
+#[inline(always)]
+fn is_number(kind: Kind) -> bool
+    ensures { result ≡ is_number kind }
+{
+    matches!(kind, Kind::U8 | Kind::U16 | Kind::U32)
+}
+
+/// Appends the octets of a number of a kind. Returns `false` if it has none.
+#[inline(always)]
+fn push_number(kind: Kind, number: u32, out: &mut Vec<u8>) -> Result<bool, AllocError>
+    ensures { IfOk result (AppendsOne (HasNumber kind number) out.old.items out.new.items) }
+{
+    match kind {
+        Kind::U8 if number <= 255 => out.push(number as u8)?,
+        Kind::U16 if number <= 65535 => out.extend_from_slice(&(number as u16).to_be_bytes())?,
+        Kind::U32 => out.extend_from_slice(&number.to_be_bytes())?,
+        _ => return Ok(false),
+    }
+    Ok(true)
 }
 
 /// Appends the octets of the field that three words are. Returns what is after them.
