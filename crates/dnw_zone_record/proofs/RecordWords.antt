@@ -1,17 +1,16 @@
 -- Words that are no times to live, and no types.
-use Rattle.std.proofs.Common.{◌≡◌, ℕ, List, Bor, Result, Ok, Err, IfOk, IfErr, inr, refl, sym, ap, ◌∙◌, subst}
+use Rattle.std.proofs.Common.{◌≡◌, ℕ, List, Bor, Result, Ok, Err, IfOk, IfErr, inr, refl, sym, subst}
 use Rattle.dnw_base.specs.declared.dns_class.DNSClass.{DNSClass}
 use Rattle.dnw_zone_record.specs.declared.record_line.LineHead.{LineHead}
 use Rattle.dnw_zone_record.specs.declared.record_line.RecordLineError.{RecordLineError}
 use Rattle.dnw_zone_record.specs.declared.record_line.RecordLineError.TheVariants.{NoType}
 use Rattle.dnw_zone_data.specs.TypeLists.{IsTypeWord}
-use Rattle.dnw_zone_record.specs.RecordLines.{FailsHead, HasTtlAndClass, IsClassWord, IsHead, IsTtlWord, LacksTtlAfterClass, LacksTypeWord, after_next_word, next_offset, next_word}
+use Rattle.dnw_zone_record.specs.RecordLines.{FailsHead, HasTtlAndClass, IsClassWord, IsHead, LacksTtlAfterClass, LacksTtlWord, LacksTypeWord, after_next_word, next_offset, next_word}
 
--- a class, and a word after it that is no time to live
-pub lacks_after : (left first rest second : List ℕ) (class : DNSClass) → first ≡ next_word left → rest ≡ after_next_word left → second ≡ next_word rest
-    → IsClassWord first class → ((n : ℕ) → ¬ (IsTtlWord second n)) → LacksTtlAfterClass left
-lacks_after left first rest second class begins goes ends is none =
-    inr (class, subst (λ x. IsClassWord x class) begins is, λ n. subst (λ x. ¬ (IsTtlWord x n)) (ends ∙ ap next_word goes) (none n))
+-- a class, and no time to live after it
+pub lacks_after : (left first rest : List ℕ) (class : DNSClass) → first ≡ next_word left → rest ≡ after_next_word left → IsClassWord first class → LacksTtlWord rest
+    → LacksTtlAfterClass left
+lacks_after left first rest class begins goes is none = inr (class, subst (λ x. IsClassWord x class) begins is, subst LacksTtlWord goes none)
 
 -- no type is after the time to live and the class
 pub type_missing : {A : Type 0} (len : ℕ) (text left : List ℕ) (ttl : ℕ) (class : DNSClass) (r : Result A RecordLineError) → HasTtlAndClass text ttl class left

@@ -20,7 +20,7 @@ use dnw_record::record_ref::RecordRef;
 use dnw_zone_data::data_text::{append_in_line, data_text};
 use dnw_zone_data::error::DataTextError;
 use dnw_zone_data::name::{fill_other, put_plain, write_name};
-use dnw_zone_data::number_form::period_seconds;
+use dnw_zone_data::number_form::{first_number, period_seconds};
 use dnw_zone_data::types::type_of_word;
 use dnw_zone_data::words::{after_spaces, is_asterisk, split_word};
 use std::alloc::{AllocError, Global};
@@ -226,9 +226,8 @@ fn ttl_and_class(text: &[u8]) -> Option<(u32, DNSClass, &[u8])>
     ensures is { MatchOption result (LacksTtl text.now) (λ r. HasTtlAndClass text.now r.0 r.1 r.2.now) }
     ensures within { IfSome result (λ r. length r.2.now ≤ length text.now) }
 {
-    let (word, rest) = next_word(text);
-    match ttl_of(word) {
-        Some(ttl) => {
+    match next_ttl(text) {
+        Some((ttl, rest)) => {
             let (class, rest) = class_or_in(rest);
             Some((ttl, class, rest))
         }
@@ -246,8 +245,7 @@ fn class_and_ttl(text: &[u8]) -> Option<(u32, DNSClass, &[u8])>
     let Some(class) = class_of(word) else {
         return None;
     };
-    let (word, rest) = next_word(rest);
-    let Some(ttl) = ttl_of(word) else {
+    let Some((ttl, rest)) = next_ttl(rest) else {
         return None;
     };
     Some((ttl, class, rest))
@@ -273,6 +271,23 @@ pub fn next_word(text: &[u8]) -> (&[u8], &[u8])
     ensures within { length result.1.now ≤ length text.now }
 {
     split_word(after_spaces(text))
+}
+
+/// Returns the time to live that the next word of a text is, and what is after it.
+#[inline(always)]
+pub fn next_ttl(text: &[u8]) -> Option<(u32, &[u8])>
+    ensures is { MatchOption result (LacksTtlWord text.now) (λ r. IsTtlWord (next_word text.now) r.0 × (r.1.now ≡ after_next_word text.now)) }
+    ensures within { IfSome result (λ r. length r.1.now ≤ length text.now) }
+{
+    let start = after_spaces(text);
+    if let Some((ttl, rest)) = first_number(start) {
+        return Some((ttl, rest));
+    }
+    let (word, rest) = split_word(start);
+    let Some(ttl) = ttl_of(word) else {
+        return None;
+    };
+    Some((ttl, rest))
 }
 
 /// Returns the time to live that a word is.
