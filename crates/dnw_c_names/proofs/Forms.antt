@@ -1,30 +1,20 @@
 -- Octets that are a name's wire form, whole.
-use Rattle.std.proofs.Common.{◌≡◌, ◌↔◌, ◌≤◌, ℕ, ◌-◌, Option, List, [], ◌∷◌, length, take, drop, refl, sym, ap, ◌∙◌, subst, arith}
-use Rattle.std.proofs.lemmas.List.{append-nil, length-append, length-take-le, nil_from_length, take_all, take-append-drop}
+use Rattle.std.proofs.Common.{◌≡◌, ◌↔◌, ◌≤◌, ℕ, List, [], ◌∷◌, length, take, drop, refl, sym, ap, ◌∙◌, subst, arith}
+use Rattle.std.proofs.lemmas.List.{append-nil, length-append, length-take-le, nil_from_length, take-append-drop}
 use Rattle.dnw_base.specs.Limits.{max_name}
 use Rattle.dnw_base.specs.Names.{AreLabels, labels_wire, wire}
 use Rattle.dnw_base.proofs.Wires.{length_wire, wire_cons}
 use Rattle.dnw_base.specs.Decoder.{Decoder}
-use Rattle.dnw_name_read.specs.Reading.{NameAt, Reads, TakesName, zero_octet, label, pointer}
+use Rattle.dnw_name_read.specs.Reading.{NameAt, TakesName}
 use Rattle.dnw_name_read.proofs.Back.{Reads_wire}
-use Rattle.dnw_name_read.proofs.Copying.{Reads_plain}
 use Rattle.dnw_name_read.proofs.Counts.{Reads_labels}
 use Rattle.dnw_name_form.specs.Inside.WireBytes.{IsWire, labels_of}
 use Rattle.dnw_name_form.proofs.Wires.{IsWire_front, IsWire_wire, begins_with_zero, labels_of_form, labels_of_wire, size_of_wire}
 use Rattle.dnw_c_base.proofs.Starts.{form_size}
+use Rattle.dnw_c_base.proofs.WireForms.{form_is}
 
 pub form_fits : (ls : List (List ℕ)) → AreLabels ls → length (wire ls) ≤ max_name
 form_fits ls h = omega (arith, form_size ls, h.fit)
-
--- in the segment that begins at offset 0 no pointer can be followed
-no_pointers : {b : List ℕ} {p e k : ℕ} {limit : Option ℕ} {ls : List (List ℕ)} → Reads b p 0 limit ls e k → k ≡ 0
-no_pointers (zero_octet w g) = refl
-no_pointers (label c w g one most fit r) = no_pointers r
-no_pointers (pointer high low w g least g' prior r) = absurd (omega (arith, prior))
-
--- so octets that end with the name at their start are its wire form
-form_is : (form : List ℕ) (ls : List (List ℕ)) (k : ℕ) → NameAt form 0 ls (length form) k → form ≡ wire ls
-form_is form ls k name = sym (take_all (length form - 0) form (omega arith)) ∙ Reads_plain name.reads (no_pointers name.reads)
 
 are_labels : (form : List ℕ) (ls : List (List ℕ)) (k : ℕ) → NameAt form 0 ls (length form) k → AreLabels ls
 are_labels form ls k name = record { each = Reads_labels name.reads; fit = name.fits }

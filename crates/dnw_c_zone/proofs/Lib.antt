@@ -5,3 +5,5 @@ pub mod ZoneForms
 pub mod StatesKept
 mod RecordPuts
 mod StateNames
+mod StateRooms
+mod StepNames

@@ -8,7 +8,7 @@ use Rattle.dnw_c_base.specs.declared.failure.Failure.TheVariants.{BadItem, Messa
 use Rattle.dnw_c_zone.specs.ParseCalls.{IsNoOrigin, IsOrigin}
 use Rattle.dnw_c_zone.specs.ZoneEntries.{PutsFound}
 use Rattle.dnw_c_zone.specs.ZonePlaces.{moved}
-use Rattle.dnw_c_zone.specs.ZoneStates.{IsContextOf, LacksContext, place_of_state, zone_state_of}
+use Rattle.dnw_c_zone.specs.ZoneStates.{IsContextOf, LacksContext, no_state, place_of_state, zone_state_of}
 use Rattle.dnw_c_zone.specs.declared.zone_entry.ZoneEntry.{ZoneEntry}
 use Rattle.dnw_c_zone.specs.declared.zone_place.FilePlace.{FilePlace}
 use Rattle.dnw_c_zone.specs.declared.zone_state.ZoneState.{ZoneState}
@@ -33,14 +33,14 @@ LacksOrigin form failure = ((form ≡ []) × (failure ≡ MessageCut)) ⊎ IsNoO
 -- The state before the first entry of a zone file with an origin is returned.
 abbrev pub BeginsZone : List ℕ → Result ZoneState Failure → Type 0
 BeginsZone form result = MatchResult result
-    (λ zone. (origin : NameValue) × (context : Context) × IsGivenOrigin form origin × IsFirst origin context × (zone ≡ zone_state_of context file_start))
+    (λ zone. (origin : NameValue) × (context : Context) × IsGivenOrigin form origin × IsFirst origin context × (zone ≡ zone_state_of no_state context file_start))
     (LacksOrigin form)
 
 -- The state before the first entry of a file that is included is returned: it has the origin, and all else as the state before.
 abbrev pub IncludesFile : List ℕ → ZoneState → Result ZoneState Failure → Type 0
 IncludesFile form before result = MatchResult result
     (λ zone. (origin : NameValue) × (context : Context) × IsGivenOrigin form origin × IsContextOf before context
-    × (zone ≡ zone_state_of (with_origin context origin) file_start))
+    × (zone ≡ zone_state_of before (with_origin context origin) file_start))
     (λ failure. LacksOrigin form failure ⊎ (LacksContext before × (failure ≡ BadItem)))
 
 -- ---- entries
@@ -49,7 +49,7 @@ IncludesFile form before result = MatchResult result
 abbrev pub PutsStep : ZoneState → List ℕ → Step → Context → List ℕ → List ℕ → Result (ZoneEntry × ZoneState) Failure → Type 0
 PutsStep before text step after old new (Ok (entry, zone)) =
     PutsFound (place_of_state before) text after step.used step.found old new (Ok entry)
-    × (zone ≡ zone_state_of after (moved (place_of_state before) (take step.used text)))
+    × (zone ≡ zone_state_of before after (moved (place_of_state before) (take step.used text)))
 PutsStep before text step after old new (Err failure) =
     PutsFound (place_of_state before) text after step.used step.found old new (Err failure)
 

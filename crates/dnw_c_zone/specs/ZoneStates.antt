@@ -14,10 +14,6 @@ abbrev pub owner_form : Option (List (List ℕ)) → List ℕ
 owner_form (Some labels) = wire labels
 owner_form None = []
 
--- octets at the front of room for a name
-abbrev pub in_room : List ℕ → List ℕ
-in_room octets = put (replicate 255 0) octets
-
 -- a time, with a flag that is 0 if there is none
 abbrev pub or_zero : Option ℕ → ℕ
 or_zero (Some number) = number
@@ -30,9 +26,26 @@ has_number None = 0
 abbrev pub time_of : ℕ → ℕ → Option ℕ
 time_of present number = if present == 0 then None else Some number
 
--- the state that says at a place what the entries so far said
-abbrev pub zone_state_of : Context → FilePlace → ZoneState
-zone_state_of context at = record {
+-- a state that says nothing
+abbrev pub no_state : ZoneState
+no_state = record {
+  offset = 0;
+  line = 0;
+  column = 0;
+  default_ttl = 0;
+  last_ttl = 0;
+  record_class = 0;
+  has_default_ttl = 0;
+  has_last_ttl = 0;
+  origin_len = 0;
+  owner_len = 0;
+  origin = replicate 255 0;
+  owner = replicate 255 0;
+}
+
+-- The state that says at a place what the entries so far said. The octets after a name in its room are those of the state before.
+abbrev pub zone_state_of : ZoneState → Context → FilePlace → ZoneState
+zone_state_of before context at = record {
   offset = at.offset;
   line = at.line;
   column = at.column;
@@ -43,8 +56,8 @@ zone_state_of context at = record {
   has_last_ttl = has_number context.last_ttl;
   origin_len = length (wire context.origin.labels);
   owner_len = length (owner_form context.owner);
-  origin = in_room (wire context.origin.labels);
-  owner = in_room (owner_form context.owner);
+  origin = put before.origin (wire context.origin.labels);
+  owner = put before.owner (owner_form context.owner);
 }
 
 -- the place up to which a state has read

@@ -17,7 +17,7 @@ use Rattle.dnw_zone_file.specs.declared.context.Context.{Context}
 
 -- the state after this text, which says what the context says
 abbrev pub state_after : ZoneState → Context → List ℕ → ZoneState
-state_after before after text = zone_state_of after (moved (place_of_state before) text)
+state_after before after text = zone_state_of before after (moved (place_of_state before) text)
 
 -- Nothing is put: the state says nothing, or memory runs out.
 abbrev pub LacksState : ZoneState → Failure → Type 0

@@ -8,7 +8,7 @@ use crate::parsing::origin_of;
 use crate::zone_entry::{ZoneEntry, put_found};
 use crate::zone_place::{FilePlace, moved};
 use crate::zone_state::{
-    ZoneState, context_of, fill_context, place_of_state, put_state, zone_state_of,
+    ZoneState, context_of, fill_context, move_state, no_state, place_of_state, zone_state_of,
 };
 use dnw_c_base::failure::Failure;
 use dnw_c_base::results::report;
@@ -61,7 +61,7 @@ fn begun(alloc: Global, origin: &[u8]) -> Result<ZoneState, Failure>
     ensures { BeginsZone origin.now result }
 {
     let origin = name_of(alloc, origin)?;
-    Ok(zone_state_of(&Context::new(origin), START))
+    Ok(zone_state_of(&no_state(), &Context::new(origin), START))
 }
 
 /// Returns the state before the first entry of a file that is included after this one.
@@ -73,7 +73,7 @@ fn included(alloc: Global, origin: &[u8], zone: &ZoneState) -> Result<ZoneState,
         return Err(Failure::BadItem);
     };
     context.origin = origin;
-    Ok(zone_state_of(&context, START))
+    Ok(zone_state_of(zone, &context, START))
 }
 
 /// Returns the name that a wire form is.
@@ -109,7 +109,7 @@ fn next(
     let step = take_entry(alloc, &mut context, text, more, &mut line);
     match put_found(alloc, at, text, &context, &step, octets, entry) {
         Ok(()) => {
-            put_state(zone, &context, moved(at, text, step.used));
+            move_state(zone, &context, moved(at, text, step.used), &step.found);
             Ok(())
         }
         Err(failure) => Err(failure),

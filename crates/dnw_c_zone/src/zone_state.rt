@@ -1,10 +1,12 @@
 //! What is known of a zone file that is read, as plain data of a caller.
-ghost use Rattle.std.specs.Prelude.{◌≡◌, ◌≤◌, Some, length, take, IfSome, IfNone, MatchBool};
+ghost use Rattle.std.specs.Prelude.{◌≡◌, ◌≤◌, true, Some, length, take, IfSome, IfNone, MatchBool};
 ghost use Rattle.dnw_base.specs.Limits.{max_name};
 ghost use Rattle.dnw_base.specs.Names.{wire};
-ghost use Rattle.dnw_c_zone.specs.Inside.StateNames.{IsNoStateName, IsOwnerForm, LacksStateName};
+ghost use Rattle.dnw_c_zone.specs.Inside.StateNames.{IsNoStateName, IsOwnerForm, KeepsNames, LacksStateName, NamesFit, changes_origin, changes_owner, with_numbers, with_origin_form, with_owner_form};
 ghost use Rattle.dnw_c_zone.specs.ParseCalls.{IsOrigin};
-ghost use Rattle.dnw_c_zone.specs.ZoneStates.{IsContextOf, LacksContext, has_number, in_room, or_zero, owner_form, place_of_state, zone_state_of, time_of};
+ghost use Rattle.dnw_c_zone.specs.ZoneStates.{IsContextOf, LacksContext, has_number, no_state, or_zero, owner_form, place_of_state, zone_state_of, time_of};
+ghost use Rattle.dnw_name_read.specs.Buffers.{put};
+ghost use Rattle.dnw_zone_file.specs.declared.context.Context.{Context};
 
 use crate::parsing::ref_of;
 use crate::zone_place::FilePlace;
@@ -15,6 +17,9 @@ use dnw_name::name_ref::NameRef;
 use dnw_name_form::form::WireForm;
 use dnw_name_form::wire_labels::WireLabels;
 use dnw_zone_file::context::Context;
+use dnw_zone_file::entry::Entry;
+use dnw_zone_file::error::ZoneError;
+use dnw_zone_file::step::Found;
 use std::alloc::Global;
 
 /// What the entries of a zone file so far say for later ones, and how much of it was read: plain data without an invariant.
@@ -49,34 +54,77 @@ pub struct ZoneState {
     pub owner: [u8; MAX_NAME],
 }
 
-/// Returns the state at a place, after the entries that made the context.
-pub(crate) fn zone_state_of(context: &Context, at: FilePlace) -> ZoneState
-    ensures { result ≡ zone_state_of context.now at }
+/// Returns a state that says nothing, with zeros in its rooms.
+pub(crate) fn no_state() -> ZoneState
+    ensures { result ≡ no_state }
 {
-    let origin = origin_form(context);
-    let owner = owner_form(context);
     ZoneState {
-        offset: at.offset,
-        line: at.line,
-        column: at.column,
-        default_ttl: or_zero(context.default_ttl),
-        last_ttl: or_zero(context.last_ttl),
-        record_class: context.class.code(),
-        has_default_ttl: has_number(context.default_ttl),
-        has_last_ttl: has_number(context.last_ttl),
-        origin_len: origin.len() as u8,
-        owner_len: owner.len() as u8,
-        origin: in_room(origin),
-        owner: in_room(owner),
+        offset: 0,
+        line: 0,
+        column: 0,
+        default_ttl: 0,
+        last_ttl: 0,
+        record_class: 0,
+        has_default_ttl: 0,
+        has_last_ttl: 0,
+        origin_len: 0,
+        owner_len: 0,
+        origin: [0; MAX_NAME],
+        owner: [0; MAX_NAME],
     }
 }
 
-/// Changes a state into that at a place, after the entries that made the context. It is not built elsewhere and copied.
-pub(crate) fn put_state(zone: &mut ZoneState, context: &Context, at: FilePlace)
-    ensures { zone.new ≡ zone_state_of context.now at }
+/// Returns the state at a place, after the entries that made the context. The octets after a name in its room are those of the state
+/// before.
+pub(crate) fn zone_state_of(before: &ZoneState, context: &Context, at: FilePlace) -> ZoneState
+    ensures { result ≡ zone_state_of before.now context.now at }
 {
-    let origin = origin_form(context);
-    let owner = owner_form(context);
+    let mut zone = *before;
+    put_numbers(&mut zone, context, at);
+    put_origin(&mut zone, context);
+    put_owner(&mut zone, context);
+    zone
+}
+
+/// Changes a state into that at a place, after the entry that made the context. A name that the entry leaves as it was is not written.
+pub(crate) fn move_state(
+    zone: &mut ZoneState,
+    context: &Context,
+    at: FilePlace,
+    found: &Result<Found, ZoneError>,
+)
+    requires { NamesFit zone.old }
+    ensures { (before : Context) → IsContextOf zone.old before → KeepsNames found.now before context.now
+        → zone.new ≡ zone_state_of zone.old context.now at }
+{
+    put_numbers(zone, context, at);
+    if changes_origin(found) {
+        put_origin(zone, context);
+        return;
+    }
+    if changes_owner(found) {
+        put_owner(zone, context);
+    }
+}
+
+/// Returns `true` if a text begins with an entry that may change the origin.
+fn changes_origin(found: &Result<Found, ZoneError>) -> bool
+    ensures { result ≡ changes_origin found.now }
+{
+    matches!(found, Ok(Found::Entry(Entry::Nothing)))
+}
+
+/// Returns `true` if a text begins with an entry that may change the owner of the last record.
+fn changes_owner(found: &Result<Found, ZoneError>) -> bool
+    ensures { result ≡ changes_owner found.now }
+{
+    matches!(found, Ok(Found::Entry(Entry::Record(_))))
+}
+
+/// Puts a place, and what else is known than names.
+fn put_numbers(zone: &mut ZoneState, context: &Context, at: FilePlace)
+    ensures { zone.new ≡ with_numbers zone.old context.now at }
+{
     zone.offset = at.offset;
     zone.line = at.line;
     zone.column = at.column;
@@ -85,10 +133,24 @@ pub(crate) fn put_state(zone: &mut ZoneState, context: &Context, at: FilePlace)
     zone.record_class = context.class.code();
     zone.has_default_ttl = has_number(context.default_ttl);
     zone.has_last_ttl = has_number(context.last_ttl);
-    zone.origin_len = origin.len() as u8;
-    zone.owner_len = owner.len() as u8;
-    put_in_room(&mut zone.origin, origin);
-    put_in_room(&mut zone.owner, owner);
+}
+
+/// Puts the origin at the front of its room.
+fn put_origin(zone: &mut ZoneState, context: &Context)
+    ensures { zone.new ≡ with_origin_form zone.old (wire context.now.origin.labels) }
+{
+    let form = origin_form(context);
+    zone.origin_len = form.len() as u8;
+    put_in_room(&mut zone.origin, form);
+}
+
+/// Puts the owner of the last record at the front of its room.
+fn put_owner(zone: &mut ZoneState, context: &Context)
+    ensures { zone.new ≡ with_owner_form zone.old (owner_form context.now.owner) }
+{
+    let form = owner_form(context);
+    zone.owner_len = form.len() as u8;
+    put_in_room(&mut zone.owner, form);
 }
 
 /// Returns the place up to which a state has read.
@@ -118,7 +180,8 @@ pub(crate) fn context_of(alloc: Global, zone: &ZoneState) -> Option<Context>
 /// Changes a context into what the entries so far say by a state, so that it is not moved. Returns `false` if the state's origin or
 /// owner is no wire form; the context may be changed then.
 pub(crate) fn fill_context(alloc: Global, context: &mut Context, zone: &ZoneState) -> bool
-    ensures { MatchBool result (IsContextOf zone.now context.new) (LacksContext zone.now) }
+    ensures is { MatchBool result (IsContextOf zone.now context.new) (LacksContext zone.now) }
+    ensures fit { result ≡ true → NamesFit zone.now }
 {
     if !fill_origin(&mut context.origin, front_of(&zone.origin, zone.origin_len)) {
         return false;
@@ -215,28 +278,18 @@ fn bounded(labels: WireLabels<'_>) -> &[u8]
     labels.as_wire()
 }
 
-/// Returns octets at the front of room for a name, with zeros after them.
-fn in_room(octets: &[u8]) -> [u8; MAX_NAME]
-    requires { length octets.now ≤ max_name }
-    ensures { result ≡ in_room octets.now }
-{
-    let mut room = [0; MAX_NAME];
-    put_in_room(&mut room, octets);
-    room
-}
-
-/// Puts octets at the front of room for a name, and zeros after them.
+/// Puts octets at the front of room for a name.
 fn put_in_room(room: &mut [u8; MAX_NAME], octets: &[u8])
     requires { length octets.now ≤ max_name }
-    ensures { room.new ≡ in_room octets.now }
+    ensures { room.new ≡ put room.old octets.now }
 {
-    *room = [0; MAX_NAME];
     room[..octets.len()].copy_from_slice(octets);
 }
 
 /// Returns so many octets of room for a name.
 fn front_of(room: &[u8; MAX_NAME], len: u8) -> &[u8]
-    ensures { result.now ≡ take len room.now }
+    ensures is { result.now ≡ take len room.now }
+    ensures fits { len ≤ length room.now }
 {
     &room[..usize::from(len)]
 }

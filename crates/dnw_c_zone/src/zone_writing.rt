@@ -153,5 +153,5 @@ fn known(alloc: Global, zone: &ZoneState) -> Result<Context, Failure>
 fn state_after(zone: &ZoneState, context: &Context, text: &[u8]) -> ZoneState
     ensures { result ≡ state_after zone.now context.now text.now }
 {
-    zone_state_of(context, moved(place_of_state(zone), text, text.len()))
+    zone_state_of(zone, context, moved(place_of_state(zone), text, text.len()))
 }

@@ -1,14 +1,15 @@
 //! Entries of a text, one after the other.
-ghost use Rattle.std.specs.Prelude.{◌≡◌, ◌≤◌, ◌<◌, length, IfSome};
+ghost use Rattle.std.specs.Prelude.{◌≡◌, ◌≤◌, ◌<◌, drop, length, IfOk, IfSome};
 ghost use Rattle.dnw_zone_record.specs.declared.scan.Ending.TheVariants.{Line, Text};
-ghost use Rattle.dnw_zone_file.specs.Steps.{IsStepAt, IsEntryFound, IsStep, Moves, after_feed, more_step, words_step};
+ghost use Rattle.dnw_zone_record.specs.Lines.{line_of};
+ghost use Rattle.dnw_zone_file.specs.Steps.{IsStepAt, IsEntryFound, IsStep, Moves, after_feed, more_step, words_step, wrong_step};
 
 use crate::context::Context;
 use crate::entry::{Entry, entry_of};
 use crate::error::{ZoneError, ZoneRule};
 use dnw_zone_record::scan::{Ending, plain_line, scan};
 use dnw_zone_record::word_error::WordRule;
-use std::alloc::Global;
+use std::alloc::{AllocError, Global};
 
 /// What a text begins with.
 #[derive(Drop)]
@@ -55,19 +56,32 @@ pub fn take_entry(
             found: Ok(found),
         };
     }
-    if let Some((own, ending)) = plain_line(text) {
-        return ended(alloc, context, text, more, own, ending);
-    }
-    let Ok(ending) = scan(text, line) else {
-        return Step {
+    match line_in(text, line) {
+        Ok((own, ending)) => ended(alloc, context, text, more, own, ending),
+        Err(_) => Step {
             used: 0,
             found: Err(ZoneError::Memory),
-        };
-    };
-    ended(alloc, context, text, more, line.as_slice(), ending)
+        },
+    }
+}
+
+/// Returns the line of the entry that a text begins with, and how it ends. A line with comments or parentheses is put in place of `line`.
+#[inline(always)]
+fn line_in<'t>(text: &'t [u8], line: &'t mut Vec<u8>) -> Result<(&'t [u8], Ending), AllocError>
+    ensures line { IfOk result (λ r. line_of text.now ≡ (r.0.now, r.1)) }
+    ensures within { IfOk result (λ r. length r.0.now ≤ length text.now) }
+    ensures ended { IfOk result (λ r. r.1 ≡ Line → length r.0.now < length text.now) }
+    ensures all { IfOk result (λ r. r.1 ≡ Text → length r.0.now ≡ length text.now) }
+{
+    if let Some(found) = plain_line(text) {
+        return Ok(found);
+    }
+    let ending = scan(text, line)?;
+    Ok((line.as_slice(), ending))
 }
 
 /// Returns what a text begins with, of which this is the line and how it ends.
+#[inline(always)]
 fn ended(
     alloc: Global,
     context: &mut Context,
@@ -84,17 +98,28 @@ fn ended(
     ensures within { result.used ≤ length text.now }
     ensures moves { Moves result }
 {
-    match ending {
-        Ending::Line => entry_found(alloc, context, line, line.len() + 1),
-        Ending::Text if more => needs_more(),
-        Ending::Text => entry_found(alloc, context, line, line.len()),
-        Ending::Cut(_) if more => needs_more(),
-        Ending::Cut(rule) => fails(line.len(), rule, line.len()),
-        Ending::Wrong(rule) => match after_feed(&text[line.len()..]) {
-            Some(len) => fails(line.len(), rule, line.len() + len),
-            None if more => needs_more(),
-            None => fails(line.len(), rule, text.len()),
-        },
+    let used = match ending {
+        Ending::Line => line.len() + 1,
+        Ending::Text if more => return needs_more(),
+        Ending::Text => line.len(),
+        Ending::Cut(_) if more => return needs_more(),
+        Ending::Cut(rule) => return fails(line.len(), rule, line.len()),
+        Ending::Wrong(rule) => return wrong_words(text, more, line.len(), rule),
+    };
+    entry_found(alloc, context, line, used)
+}
+
+/// Returns the step that is an error of words at an offset of a text: the next entry is after the next line feed.
+fn wrong_words(text: &[u8], more: bool, offset: usize, rule: WordRule) -> Step
+    requires { offset ≤ length text.now }
+    ensures is { result ≡ wrong_step more text.now offset rule (after_feed (drop offset text.now)) }
+    ensures within { result.used ≤ length text.now }
+    ensures moves { Moves result }
+{
+    match after_feed(&text[offset..]) {
+        Some(len) => fails(offset, rule, offset + len),
+        None if more => needs_more(),
+        None => fails(offset, rule, text.len()),
     }
 }
 
@@ -120,6 +145,7 @@ fn fails(offset: usize, rule: WordRule, used: usize) -> Step
 }
 
 /// Returns the step that is the entry with this line, or why it is none.
+#[inline(always)]
 fn entry_found(alloc: Global, context: &mut Context, line: &[u8], used: usize) -> Step
     ensures is { IsEntryFound context.old line.now used result context.new }
     ensures used { result.used ≡ used }
