@@ -13,3 +13,4 @@ pub mod WrittenTexts
 pub mod Adding
 pub mod Lookups
 pub mod Upward
+pub mod OwnOwners

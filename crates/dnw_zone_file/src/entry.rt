@@ -1,6 +1,9 @@
 //! Single entries of zone files.
-ghost use Rattle.std.specs.Prelude.{◌≡◌, ◌≢◌, ◌≤◌, ℕ, List, [], Some, None, length, IfOk, IfErr, MatchBool, MatchOption};
+ghost use Rattle.std.specs.Prelude.{◌≡◌, ◌≢◌, ◌≤◌, ℕ, List, [], Some, None, length, take, IfOk, IfErr, MatchBool, MatchOption};
+ghost use Rattle.dnw_base.specs.Limits.{max_name};
 ghost use Rattle.dnw_base.specs.Names.{NameValue};
+ghost use Rattle.dnw_zone_data.specs.NameReading.{named_at};
+ghost use Rattle.dnw_zone_file.specs.Inside.OwnOwners.{IsNamed};
 ghost use Rattle.dnw_zone_data.specs.Words.{after_spaces};
 ghost use Rattle.dnw_zone_file.specs.declared.error.ZoneRule.TheVariants.{BadOwner, NoOwner, NoTimeToLive};
 ghost use Rattle.dnw_zone_file.specs.Heads.{IsZoneHead, wrong_at};
@@ -13,10 +16,12 @@ use crate::directive::{Directive, directive_of};
 use crate::error::{ZoneError, ZoneRule};
 use crate::head::{Head, head_of, wrong_at};
 use dnw_base::dns_class::DNSClass;
+use dnw_base::limits::MAX_NAME;
 use dnw_base::record_type::RecordType;
 use dnw_name::name::Name;
 use dnw_name_form::form::WireForm;
-use dnw_zone_data::name::fill_name;
+use dnw_name_form::wire_labels::WireLabels;
+use dnw_zone_data::name::{fill_other, put_plain};
 use dnw_zone_data::words::{after_spaces, split_word};
 use dnw_zone_record::record_line::{data_of, next_word, ttl_of};
 use std::alloc::Global;
@@ -140,11 +145,10 @@ fn owned_first(
     ensures ok { IfOk result (λ entry. IsOwned (owner_at context.old.origin word.now) context.old rest.now entry context.new) }
     ensures err { IfErr result (λ e. FailsOwned (owner_at context.old.origin word.now) context.old line.now rest.now BadOwner e × (context.new ≡ context.old)) }
 {
-    let mut owner = WireForm::new(alloc);
-    if read_owner(&mut owner, &context.origin, word) {
-        record_of(alloc, context, &owner, line.len(), rest)
-    } else {
-        Err(wrong_at(line.len(), line, ZoneRule::BadOwner))
+    let mut room = [0; MAX_NAME];
+    match own_owner(alloc, &mut room, &context.origin, word) {
+        Some(owner) => record_of(alloc, context, owner, line.len(), rest),
+        None => Err(wrong_at(line.len(), line, ZoneRule::BadOwner)),
     }
 }
 
@@ -168,32 +172,65 @@ pub(crate) fn owner_before(context: &Context) -> Option<WireForm>
     }
 }
 
-/// Reads the owner that a word is into a form without labels. Returns `false` if it is none. A quoted string is none.
-fn read_owner(form: &mut WireForm, origin: &Name, word: &[u8]) -> bool
-    requires { form.old ≡ [] }
-    ensures { MatchBool result (owner_at origin.now word.now ≡ Some form.new) (owner_at origin.now word.now ≡ None) }
+/// Returns the owner that a word is, if it is one. Its wire form is put in a room. A quoted string is none.
+#[tactic(auto, using(crate::proofs::OwnOwners::form_of_name, crate::proofs::OwnOwners::owner_named))]
+fn own_owner<'r>(
+    alloc: Global,
+    room: &'r mut [u8; MAX_NAME],
+    origin: &Name,
+    word: &[u8],
+) -> Option<WireLabels<'r>>
+    ensures { MatchOption result (owner_at origin.now word.now ≡ None) (λ owner. owner_at origin.now word.now ≡ Some owner) }
 {
     if begins_with(word, b'"') {
-        return false;
+        return None;
     }
-    fill_name(form, word, Some(origin))
+    let len = put_named(alloc, room, origin, word)?;
+    Some(WireLabels::new(&room[..len]))
+}
+
+/// Puts the wire form of the name that a word gives, completed by the origin, at the front of a room, and returns its length, if the
+/// word gives one.
+fn put_named(alloc: Global, room: &mut [u8; MAX_NAME], origin: &Name, word: &[u8]) -> Option<usize>
+    ensures { MatchOption result (named_at (Some origin.now) word.now ≡ None)
+        (λ len. (len ≤ max_name) × IsNamed origin.now word.now (take len room.new)) }
+{
+    match put_plain(room, word) {
+        Some(len) => Some(len),
+        None => put_other(alloc, room, origin, word),
+    }
+}
+
+/// Puts the wire form of any name, as `put_named`, without a look whether its octets stand for themselves.
+#[tactic(auto, using(crate::proofs::OwnOwners::few_octets))]
+fn put_other(alloc: Global, room: &mut [u8; MAX_NAME], origin: &Name, word: &[u8]) -> Option<usize>
+    ensures { MatchOption result (named_at (Some origin.now) word.now ≡ None)
+        (λ len. (len ≤ max_name) × IsNamed origin.now word.now (take len room.new)) }
+{
+    let mut form = WireForm::new(alloc);
+    if !fill_other(&mut form, word, Some(origin)) {
+        return None;
+    }
+    let octets = form.as_bytes();
+    room[..octets.len()].copy_from_slice(octets);
+    Some(octets.len())
 }
 
 /// Returns the record of an owner, of which the text has the rest, and which is what is left of an entry of this length.
 fn record_of(
     alloc: Global,
     context: &mut Context,
-    owner: &WireForm,
+    owner: WireLabels<'_>,
     len: usize,
     left: &[u8],
 ) -> Result<Entry, ZoneError>
     requires { length left.now ≤ len }
-    ensures ok { IfOk result (λ entry. IsZoneRecord context.old owner.now left.now entry context.new) }
+    ensures ok { IfOk result (λ entry. IsZoneRecord context.old owner.entry left.now entry context.new) }
     ensures err { IfErr result (λ e. FailsZoneRecord context.old len left.now e × (context.new ≡ context.old)) }
 {
     match record_data(alloc, context, len, left) {
         Ok((head, found)) => {
-            note(context, owner, head);
+            note(alloc, context, owner, head);
             Ok(Entry::Record(found))
         }
         Err(error) => Err(error),
@@ -221,20 +258,23 @@ fn record_of_last(
 }
 
 /// Keeps what a record says for later ones.
-pub(crate) fn note(context: &mut Context, owner: &WireForm, head: Head)
-    ensures { context.new ≡ with_record context.old owner.now head }
+pub(crate) fn note(alloc: Global, context: &mut Context, owner: WireLabels<'_>, head: Head)
+    ensures { context.new ≡ with_record context.old owner.entry head }
 {
-    put_owner(&mut context.owner, owner);
+    put_owner(alloc, &mut context.owner, owner);
     note_head(context, head);
 }
 
 /// Keeps an owner in the place of the last one.
-fn put_owner(last: &mut Option<WireForm>, owner: &WireForm)
-    ensures { last.new ≡ Some owner.now }
+#[tactic(auto, using(dnw_name_form::proofs::Wires::IsWire_wire, dnw_name_form::proofs::Wires::labels_of_wire))]
+fn put_owner(alloc: Global, last: &mut Option<WireForm>, owner: WireLabels<'_>)
+    ensures { last.new ≡ Some owner.entry }
 {
-    match last {
-        Some(form) => form.clone_from(owner),
-        None => *last = Some(owner.clone()),
+    if last.is_none() {
+        *last = Some(WireForm::new(alloc));
+    }
+    if let Some(form) = last {
+        form.copy_octets(owner.as_wire());
     }
 }
 

@@ -9,7 +9,6 @@ use crate::context::Context;
 use crate::entry::note;
 use crate::head::Head;
 use dnw_name::name::Name;
-use dnw_name_form::form::WireForm;
 use dnw_name_order::order::eq_labels_case;
 use dnw_record::record_ref::RecordRef;
 use dnw_zone_data::data_text::data_text;
@@ -39,7 +38,7 @@ pub fn append_short_record(
         class: Some(record.class()),
         record_type: record.record_type(),
     };
-    note(context, &form_of(alloc, &owner), head);
+    note(alloc, context, owner.wire_labels(), head);
     Ok(())
 }
 
@@ -205,11 +204,4 @@ fn qualified(name: &Name) -> Name
     let mut whole = name.copied();
     whole.set_fqdn(true);
     whole
-}
-
-/// Returns the wire form of a name.
-fn form_of(alloc: Global, name: &Name) -> WireForm
-    ensures { result ≡ name.now.labels }
-{
-    WireForm::from_octets(alloc, name.wire_labels().as_wire())
 }
