@@ -65,103 +65,74 @@ encoded_two : (x y : ℕ) → encode_of standard (x ∷ y ∷ [])
 unfolding encode_symbols
 encoded_two x y = refl
 
--- the number of the first digit
-none_value : (n : ℕ) → base64_digit_value 65 ≡ Some n → n ≡ 0
-none_value n is = let first : base64_digit_value 65 ≡ Some 0 = refl in cc (sym is ∙ first)
-
 no_octets : IsOctets []
 no_octets i = omega arith
 
--- with padding there are one octet or two
-pub one_spelled : (a b n : ℕ) → a < 256 → b < 256 → number_of_four 262144 4096 64 (base64_digit_value a) (base64_digit_value b) (base64_digit_value 65) (base64_digit_value 65) ≡ Some n
-    → n % 65536 ≡ 0 → IsBase64Text (a ∷ b ∷ 61 ∷ 61 ∷ []) (n / 65536 ∷ [])
-one_spelled a b n ha hb is whole =
-    let digits = four (base64_digit_value a) (base64_digit_value b) (base64_digit_value 65) (base64_digit_value 65) n is in
-    let fa = symbol a digits.a ha digits.first in
-    let fb = symbol b digits.b hb digits.second in
-    let c = none_value digits.c digits.third in
-    let d = none_value digits.d digits.fourth in
-    let x : ℕ = n / 65536 in
-    let fits : x < 256 = omega (arith, digits.sum, fa.0, fb.0, c, d) in
-    let ea : x / 4 ≡ digits.a = omega (arith, digits.sum, fa.0, fb.0, c, d, whole) in
-    let eb : x % 4 * 16 ≡ digits.b = omega (arith, digits.sum, fa.0, fb.0, c, d, whole) in
-    (bytes_cons x [] fits no_octets, rw (encoded_one x, ea, eb, fa.1, fb.1) refl)
-
-pub two_spelled : (a b c n : ℕ) → a < 256 → b < 256 → c < 256 → number_of_four 262144 4096 64 (base64_digit_value a) (base64_digit_value b) (base64_digit_value c) (base64_digit_value 65) ≡ Some n
-    → n % 256 ≡ 0 → IsBase64Text (a ∷ b ∷ c ∷ 61 ∷ []) (n / 65536 ∷ n / 256 % 256 ∷ [])
-two_spelled a b c n ha hb hc is whole =
-    let digits = four (base64_digit_value a) (base64_digit_value b) (base64_digit_value c) (base64_digit_value 65) n is in
-    let fa = symbol a digits.a ha digits.first in
-    let fb = symbol b digits.b hb digits.second in
-    let fc = symbol c digits.c hc digits.third in
-    let d = none_value digits.d digits.fourth in
-    let x : ℕ = n / 65536 in
-    let y : ℕ = n / 256 % 256 in
-    let fits : x < 256 = omega (arith, digits.sum, fa.0, fb.0, fc.0, d) in
-    let ea : x / 4 ≡ digits.a = omega (arith, digits.sum, fa.0, fb.0, fc.0, d, whole) in
-    let eb : x % 4 * 16 + y / 16 ≡ digits.b = omega (arith, digits.sum, fa.0, fb.0, fc.0, d, whole) in
-    let ec : y % 16 * 4 ≡ digits.c = omega (arith, digits.sum, fa.0, fb.0, fc.0, d, whole) in
-    (bytes_cons x (y ∷ []) fits (bytes_cons y [] (omega arith) no_octets), rw (encoded_two x y, ea, eb, ec, fa.1, fb.1, fc.1) refl)
-
--- with another symbol there is no padding
-one_left : (a b c d p : ℕ) (rest : List ℕ) → a ∷ b ∷ c ∷ d ∷ rest ≡ encode_of standard (p ∷ []) → c ≡ 61
-unfolding encode_symbols
-one_left a b c d p rest is = cc is
-
-two_left : (a b c d p q : ℕ) (rest : List ℕ) → a ∷ b ∷ c ∷ d ∷ rest ≡ encode_of standard (p ∷ q ∷ []) → d ≡ 61
-unfolding encode_symbols
-two_left a b c d p q rest is = cc is
-
-none_left : (a : ℕ) (rest : List ℕ) → a ∷ rest ≡ encode_of standard [] → ⊥
-unfolding encode_symbols
-none_left a rest is = cc is
-
-module _ (a b c d n : ℕ) (rest : List ℕ) (ha : a < 256) (hb : b < 256) (hc : c < 256) (hd : d < 256)
+module _ (a b c d n : ℕ) (ha : a < 256) (hb : b < 256) (hc : c < 256) (hd : d < 256)
     (is : number_of_four 262144 4096 64 (base64_digit_value a) (base64_digit_value b) (base64_digit_value c) (base64_digit_value d) ≡ Some n) where
   abbrev digits : Four (base64_digit_value a) (base64_digit_value b) (base64_digit_value c) (base64_digit_value d) n
   digits = four (base64_digit_value a) (base64_digit_value b) (base64_digit_value c) (base64_digit_value d) n is
 
-  abbrev x : ℕ
-  x = n / 65536
-
-  abbrev y : ℕ
-  y = n / 256 % 256
-
-  abbrev z : ℕ
-  z = n % 256
-
   below : n < 16777216
   below = omega (arith, digits.sum, (symbol a digits.a ha digits.first).0, (symbol b digits.b hb digits.second).0, (symbol c digits.c hc digits.third).0, (symbol d digits.d hd digits.fourth).0)
 
-  group : encode_group standard.encode_table x y z ≡ a ∷ b ∷ c ∷ d ∷ []
+  -- three octets are written by the four digits
+  group : encode_group standard.encode_table (n / 65536) (n / 256 % 256) (n % 256) ≡ a ∷ b ∷ c ∷ d ∷ []
   group =
       let fa = symbol a digits.a ha digits.first in
       let fb = symbol b digits.b hb digits.second in
       let fc = symbol c digits.c hc digits.third in
       let fd = symbol d digits.d hd digits.fourth in
-      let ea : x / 4 ≡ digits.a = omega (arith, digits.sum, fa.0, fb.0, fc.0, fd.0) in
-      let eb : x % 4 * 16 + y / 16 ≡ digits.b = omega (arith, digits.sum, fa.0, fb.0, fc.0, fd.0) in
-      let ec : y % 16 * 4 + z / 64 ≡ digits.c = omega (arith, digits.sum, fa.0, fb.0, fc.0, fd.0) in
-      let ed : z % 64 ≡ digits.d = omega (arith, digits.sum, fa.0, fb.0, fc.0, fd.0) in
+      let ea : n / 65536 / 4 ≡ digits.a = omega (arith, digits.sum, fa.0, fb.0, fc.0, fd.0) in
+      let eb : n / 65536 % 4 * 16 + n / 256 % 256 / 16 ≡ digits.b = omega (arith, digits.sum, fa.0, fb.0, fc.0, fd.0) in
+      let ec : n / 256 % 256 % 16 * 4 + n % 256 / 64 ≡ digits.c = omega (arith, digits.sum, fa.0, fb.0, fc.0, fd.0) in
+      let ed : n % 256 % 64 ≡ digits.d = omega (arith, digits.sum, fa.0, fb.0, fc.0, fd.0) in
       rw (ea, eb, ec, ed, fa.1, fb.1, fc.1, fd.1) refl
 
-  spells : (octets : List ℕ) → IsBase64Text rest octets → IsBase64Text (a ∷ b ∷ c ∷ d ∷ rest) (x ∷ y ∷ z ∷ octets)
-  spells octets own = (
-    bytes_cons x (y ∷ z ∷ octets) (omega (arith, below)) (bytes_cons y (z ∷ octets) (omega arith) (bytes_cons z octets (omega arith) own.0)),
-    ap (λ (more : List ℕ). a ∷ b ∷ c ∷ d ∷ more) own.1 ∙ ap (λ (front : List ℕ). front ++ encode_of standard octets) (sym group) ∙ sym (three_more x y z octets),
+-- with padding there are one octet or two, since the last ones are zeros
+pub one_spelled : (a b n : ℕ) → a < 256 → b < 256 → number_of_four 262144 4096 64 (base64_digit_value a) (base64_digit_value b) (base64_digit_value 65) (base64_digit_value 65) ≡ Some n
+    → n % 65536 ≡ 0 → IsBase64Text (a ∷ b ∷ 61 ∷ 61 ∷ []) (n / 65536 ∷ [])
+one_spelled a b n ha hb is whole =
+    let four = group a b 65 65 n ha hb (omega arith) (omega arith) is in
+    let first : slice_index standard.encode_table (n / 65536 / 4) ≡ a = ap (λ (l : List ℕ). get_or l 0 0) four in
+    let zeros : n / 65536 % 4 * 16 ≡ n / 65536 % 4 * 16 + n / 256 % 256 / 16 = omega (arith, whole) in
+    let second : slice_index standard.encode_table (n / 65536 % 4 * 16) ≡ b = ap (slice_index standard.encode_table) zeros ∙ ap (λ (l : List ℕ). get_or l 1 0) four in
+    (bytes_cons (n / 65536) [] (omega (arith, below a b 65 65 n ha hb (omega arith) (omega arith) is)) no_octets, rw (encoded_one (n / 65536), first, second) refl)
+
+pub two_spelled : (a b c n : ℕ) → a < 256 → b < 256 → c < 256 → number_of_four 262144 4096 64 (base64_digit_value a) (base64_digit_value b) (base64_digit_value c) (base64_digit_value 65) ≡ Some n
+    → n % 256 ≡ 0 → IsBase64Text (a ∷ b ∷ c ∷ 61 ∷ []) (n / 65536 ∷ n / 256 % 256 ∷ [])
+two_spelled a b c n ha hb hc is whole =
+    let four = group a b c 65 n ha hb hc (omega arith) is in
+    let first : slice_index standard.encode_table (n / 65536 / 4) ≡ a = ap (λ (l : List ℕ). get_or l 0 0) four in
+    let second : slice_index standard.encode_table (n / 65536 % 4 * 16 + n / 256 % 256 / 16) ≡ b = ap (λ (l : List ℕ). get_or l 1 0) four in
+    let zeros : n / 256 % 256 % 16 * 4 ≡ n / 256 % 256 % 16 * 4 + n % 256 / 64 = omega (arith, whole) in
+    let third : slice_index standard.encode_table (n / 256 % 256 % 16 * 4) ≡ c = ap (slice_index standard.encode_table) zeros ∙ ap (λ (l : List ℕ). get_or l 2 0) four in (
+      bytes_cons (n / 65536) (n / 256 % 256 ∷ []) (omega (arith, below a b c 65 n ha hb hc (omega arith) is)) (bytes_cons (n / 256 % 256) [] (omega arith) no_octets),
+      rw (encoded_two (n / 65536) (n / 256 % 256), first, second, third) refl,
+    )
+
+module _ (a b c d n : ℕ) (rest : List ℕ) (ha : a < 256) (hb : b < 256) (hc : c < 256) (hd : d < 256)
+    (is : number_of_four 262144 4096 64 (base64_digit_value a) (base64_digit_value b) (base64_digit_value c) (base64_digit_value d) ≡ Some n) where
+  abbrev own : List ℕ
+  own = n / 65536 ∷ n / 256 % 256 ∷ n % 256 ∷ []
+
+  spells : (octets : List ℕ) → IsBase64Text rest octets → IsBase64Text (a ∷ b ∷ c ∷ d ∷ rest) (own ++ octets)
+  spells octets is_rest = (
+    bytes_cons (n / 65536) (n / 256 % 256 ∷ n % 256 ∷ octets) (omega (arith, below a b c d n ha hb hc hd is)) (bytes_cons (n / 256 % 256) (n % 256 ∷ octets) (omega arith) (bytes_cons (n % 256) octets (omega arith) is_rest.0)),
+    ap (λ (more : List ℕ). a ∷ b ∷ c ∷ d ∷ more) is_rest.1 ∙ ap (λ (front : List ℕ). front ++ encode_of standard octets) (sym (group a b c d n ha hb hc hd is))
+        ∙ sym (three_more (n / 65536) (n / 256 % 256) (n % 256) octets),
   )
 
+  -- with another digit there is no padding
   only : (octets : List ℕ) → IsBase64Text (a ∷ b ∷ c ∷ d ∷ rest) octets → (others : List ℕ) × IsBase64Text rest others
-  only [] own = absurd (none_left a (b ∷ c ∷ d ∷ rest) own.1)
-  only (p ∷ []) own = let e : base64_digit_value 61 ≡ Some digits.c = ap base64_digit_value (sym (one_left a b c d p rest own.1)) ∙ digits.third in cc e
-  only (p ∷ q ∷ []) own = let e : base64_digit_value 61 ≡ Some digits.d = ap base64_digit_value (sym (two_left a b c d p q rest own.1)) ∙ digits.fourth in cc e
-  only (p ∷ q ∷ r ∷ octets) own = let e : rest ≡ encode_of standard octets = cc (own.1 ∙ three_more p q r octets) in (octets, ((λ i. own.0 (suc (suc (suc i)))), e))
+  unfolding encode_symbols
+  only [] spelled = cc spelled.1
+  only (p ∷ []) spelled = let e : c ≡ 61 = cc spelled.1 in let no : base64_digit_value 61 ≡ Some (digits a b c d n ha hb hc hd is).c = ap base64_digit_value (sym e) ∙ (digits a b c d n ha hb hc hd is).third in cc no
+  only (p ∷ q ∷ []) spelled = let e : d ≡ 61 = cc spelled.1 in let no : base64_digit_value 61 ≡ Some (digits a b c d n ha hb hc hd is).d = ap base64_digit_value (sym e) ∙ (digits a b c d n ha hb hc hd is).fourth in cc no
+  only (p ∷ q ∷ r ∷ octets) spelled = let e : rest ≡ encode_of standard octets = cc (spelled.1 ∙ three_more p q r octets) in (octets, ((λ i. spelled.0 (suc (suc (suc i)))), e))
 
-  pub group_begins : BeginsBase64 (a ∷ b ∷ c ∷ d ∷ rest) (x ∷ y ∷ z ∷ []) rest
+  pub group_begins : BeginsBase64 (a ∷ b ∷ c ∷ d ∷ rest) own rest
   group_begins = record { spells = spells; only = only; within = omega arith }
-
-  pub octets_fit : n < 16777216
-  octets_fit = below
 
 pub begins_all : (text : List ℕ) → BeginsBase64 text [] text
 begins_all text = record { spells = λ octets own. own; only = λ octets own. (octets, own); within = omega arith }
@@ -207,8 +178,8 @@ pub with_none : (text own left old new : List ℕ) → BeginsBase64 text own lef
 with_none text own left old new h none items = with_rest text own left old new [] h (rw none none_spelled) (items ∙ sym (append-nil (old ++ own)))
 
 -- the text spells nothing if the rest of it does not
-pub with_fault : (text own left : List ℕ) (e : FieldTextError) → BeginsBase64 text own left → FailsToAppend Base64 IsBase64Text left e → FailsToAppend Base64 IsBase64Text text e
-with_fault text own left e h fails = elim fails [
+pub with_fault : (text front left : List ℕ) (e : FieldTextError) → BeginsBase64 text front left → FailsToAppend Base64 IsBase64Text left e → FailsToAppend Base64 IsBase64Text text e
+with_fault text front left e h fails = elim fails [
   | inl wrong ↦ inl (wrong.0, λ octets is. let rest = h.only octets is in wrong.1 rest.0 rest.1)
   | inr ran_out ↦ inr (ran_out.0, le_trans ran_out.1 h.within)
 ]
