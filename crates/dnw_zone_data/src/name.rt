@@ -1,5 +1,5 @@
 //! Names (RFC 1035, section 5.1).
-ghost use Rattle.std.specs.Prelude.{◌≡◌, ◌≤◌, ◌++◌, ℕ, List, [], Some, None, take, IfOk, IfSome, IfNone, IsTrue, MatchBool, string_bytes};
+ghost use Rattle.std.specs.Prelude.{◌≡◌, ◌≤◌, ◌++◌, ℕ, List, [], Some, None, take, IfOk, IsTrue, MatchBool, MatchOption, string_bytes};
 ghost use Rattle.dnw_base.specs.Limits.{max_name};
 ghost use Rattle.dnw_base.specs.Names.{AreLabels};
 ghost use Rattle.std.specs.Option.{option_copied};
@@ -79,8 +79,8 @@ fn append_other(
 /// Else it may return `None`, and the room has any octets then.
 #[inline(always)]
 pub fn put_plain(room: &mut [u8; MAX_NAME], text: &[u8]) -> Option<usize>
-    ensures some { IfSome result (λ len. (len ≤ max_name) × IsNamedInFull text.now (take len room.new)) }
-    ensures none { IfNone result ((labels : List (List ℕ)) → AreLabels labels → IsTrue (is_plain_name labels) → text.now ≡ full_name_text labels → ⊥) }
+    ensures { MatchOption result ((labels : List (List ℕ)) → AreLabels labels → IsTrue (is_plain_name labels) → text.now ≡ full_name_text labels → ⊥)
+        (λ len. (len ≤ max_name) × IsNamedInFull text.now (take len room.new)) }
 {
     let last = text.last()?;
     if *last != b'.' {
