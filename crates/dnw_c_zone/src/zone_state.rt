@@ -48,9 +48,9 @@ pub struct ZoneState {
     pub origin_len: u8,
     /// The number of octets of the owner of the last record, or 0 if there is none.
     pub owner_len: u8,
-    /// The origin's wire form.
+    /// The origin's wire form, at the front.
     pub origin: [u8; MAX_NAME],
-    /// The wire form of the owner of the last record.
+    /// The wire form of the owner of the last record, at the front.
     pub owner: [u8; MAX_NAME],
 }
 
