@@ -9,7 +9,7 @@ ghost use Rattle.dnw_zone_values.specs.Inside.Digits.{base32_digit_value, base32
 /// The number of what is no digit.
 const N: u32 = 1 << 24;
 
-macro_rules! hexadecimal {
+macro_rules! hexadecimal_table {
     ($at:expr) => {
         [
             N, N, N, N, N, N, N, N,
@@ -48,7 +48,7 @@ macro_rules! hexadecimal {
     };
 }
 
-macro_rules! base32 {
+macro_rules! base32_table {
     ($at:expr) => {
         [
             N, N, N, N, N, N, N, N,
@@ -87,7 +87,7 @@ macro_rules! base32 {
     };
 }
 
-macro_rules! base64 {
+macro_rules! base64_table {
     ($at:expr) => {
         [
             N, N, N, N, N, N, N, N,
@@ -127,22 +127,37 @@ macro_rules! base64 {
 }
 
 static HEXADECIMAL: [[u32; 256]; 4] = [
-    hexadecimal!(12),
-    hexadecimal!(8),
-    hexadecimal!(4),
-    hexadecimal!(0),
+    hexadecimal_table!(12),
+    hexadecimal_table!(8),
+    hexadecimal_table!(4),
+    hexadecimal_table!(0),
 ];
 
-static BASE32: [[u32; 256]; 4] = [base32!(15), base32!(10), base32!(5), base32!(0)];
+static BASE32: [[u32; 256]; 4] = [
+    base32_table!(15),
+    base32_table!(10),
+    base32_table!(5),
+    base32_table!(0),
+];
 
-static BASE64: [[u32; 256]; 4] = [base64!(18), base64!(12), base64!(6), base64!(0)];
+static BASE64: [[u32; 256]; 4] = [
+    base64_table!(18),
+    base64_table!(12),
+    base64_table!(6),
+    base64_table!(0),
+];
 
 /// Returns the number of four hexadecimal digits, if each is one.
 #[inline(always)]
 pub(crate) fn hexadecimal_number(a: u8, b: u8, c: u8, d: u8) -> Option<u32>
     ensures { result ≡ number_of_four 4096 256 16 (hex_digit_value a) (hex_digit_value b) (hex_digit_value c) (hex_digit_value d) }
 {
-    number_of(hexadecimal(0, a) + hexadecimal(1, b) + hexadecimal(2, c) + hexadecimal(3, d))
+    number_of(
+        placed_hexadecimal(0, a)
+            + placed_hexadecimal(1, b)
+            + placed_hexadecimal(2, c)
+            + placed_hexadecimal(3, d),
+    )
 }
 
 /// Returns the number of four digits of base 32 with the extended hex alphabet, if each is one.
@@ -150,7 +165,7 @@ pub(crate) fn hexadecimal_number(a: u8, b: u8, c: u8, d: u8) -> Option<u32>
 pub(crate) fn base32_number(a: u8, b: u8, c: u8, d: u8) -> Option<u32>
     ensures { result ≡ number_of_four 32768 1024 32 (base32_digit_value a) (base32_digit_value b) (base32_digit_value c) (base32_digit_value d) }
 {
-    number_of(base32(0, a) + base32(1, b) + base32(2, c) + base32(3, d))
+    number_of(placed_base32(0, a) + placed_base32(1, b) + placed_base32(2, c) + placed_base32(3, d))
 }
 
 /// Returns the number of four digits of base 64, if each is one.
@@ -158,12 +173,12 @@ pub(crate) fn base32_number(a: u8, b: u8, c: u8, d: u8) -> Option<u32>
 pub(crate) fn base64_number(a: u8, b: u8, c: u8, d: u8) -> Option<u32>
     ensures { result ≡ number_of_four 262144 4096 64 (base64_digit_value a) (base64_digit_value b) (base64_digit_value c) (base64_digit_value d) }
 {
-    number_of(base64(0, a) + base64(1, b) + base64(2, c) + base64(3, d))
+    number_of(placed_base64(0, a) + placed_base64(1, b) + placed_base64(2, c) + placed_base64(3, d))
 }
 
 /// Returns the number of a hexadecimal digit in one of four places, or `N` if it is none.
 #[inline(always)]
-fn hexadecimal(place: usize, c: u8) -> u32
+fn placed_hexadecimal(place: usize, c: u8) -> u32
     requires { place < 4 }
     ensures is { result ≡ in_place (slice_index hexadecimal_places place) (hex_digit_value c) }
     ensures most { result ≤ 16777216 }
@@ -173,7 +188,7 @@ fn hexadecimal(place: usize, c: u8) -> u32
 
 /// Returns the number of a digit of base 32 in one of four places, or `N` if it is none.
 #[inline(always)]
-fn base32(place: usize, c: u8) -> u32
+fn placed_base32(place: usize, c: u8) -> u32
     requires { place < 4 }
     ensures is { result ≡ in_place (slice_index base32_places place) (base32_digit_value c) }
     ensures most { result ≤ 16777216 }
@@ -183,7 +198,7 @@ fn base32(place: usize, c: u8) -> u32
 
 /// Returns the number of a digit of base 64 in one of four places, or `N` if it is none.
 #[inline(always)]
-fn base64(place: usize, c: u8) -> u32
+fn placed_base64(place: usize, c: u8) -> u32
     requires { place < 4 }
     ensures is { result ≡ in_place (slice_index base64_places place) (base64_digit_value c) }
     ensures most { result ≤ 16777216 }

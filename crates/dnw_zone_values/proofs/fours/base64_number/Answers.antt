@@ -8,4 +8,4 @@ returns c =
     c.number_of.ensures
     ∙ sum_of_four 262144 4096 64 64 (λ a b c d ha hb hc hd. omega arith) (base64_digit_value c.args.a) (base64_digit_value c.args.b) (base64_digit_value c.args.c) (base64_digit_value c.args.d)
     (base64_below c.args.a) (base64_below c.args.b) (base64_below c.args.c) (base64_below c.args.d) _
-    (omega (arith, c.base64.ensures.is, c.base64-2.ensures.is, c.base64-3.ensures.is, c.base64-4.ensures.is))
+    (omega (arith, c.placed_base64.ensures.is, c.placed_base64-2.ensures.is, c.placed_base64-3.ensures.is, c.placed_base64-4.ensures.is))

@@ -8,4 +8,4 @@ returns c =
     c.number_of.ensures
     ∙ sum_of_four 4096 256 16 16 (λ a b c d ha hb hc hd. omega arith) (hex_digit_value c.args.a) (hex_digit_value c.args.b) (hex_digit_value c.args.c) (hex_digit_value c.args.d)
     (hexadecimal_below c.args.a) (hexadecimal_below c.args.b) (hexadecimal_below c.args.c) (hexadecimal_below c.args.d) _
-    (omega (arith, c.hexadecimal.ensures.is, c.hexadecimal-2.ensures.is, c.hexadecimal-3.ensures.is, c.hexadecimal-4.ensures.is))
+    (omega (arith, c.placed_hexadecimal.ensures.is, c.placed_hexadecimal-2.ensures.is, c.placed_hexadecimal-3.ensures.is, c.placed_hexadecimal-4.ensures.is))

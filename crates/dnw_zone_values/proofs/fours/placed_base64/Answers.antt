@@ -2,7 +2,7 @@ use Rattle.std.proofs.Common.{ℕ, refl, arith}
 use Rattle.dnw_zone_values.specs.Inside.Digits.{base64_digit_value, base64_places, in_place}
 use Rattle.dnw_zone_values.specs.declared.fours.TheConstants.{BASE64}
 use Rattle.dnw_zone_values.proofs.FourDigits.{in_table, most_in_table}
-use Rattle.dnw_zone_values.proofs.fours.base64.Goals as goal
+use Rattle.dnw_zone_values.proofs.fours.placed_base64.Goals as goal
 
 pub returns-clause-is : goal.returns-clause-is
 returns-clause-is c = in_table BASE64 base64_places (λ (u c : ℕ). in_place u (base64_digit_value c)) c.args.place c.args.c refl c.requires (omega arith)
