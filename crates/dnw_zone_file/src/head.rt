@@ -7,7 +7,7 @@ use dnw_base::dns_class::DNSClass;
 use dnw_base::record_type::RecordType;
 use dnw_zone_data::types::type_of_word;
 use dnw_zone_data::words::after_spaces;
-use dnw_zone_record::record_line::{class_of, next_word, ttl_of};
+use dnw_zone_record::record_line::{class_of, next_ttl, next_word};
 
 /// What a record has between its owner and its data. The time to live and the class may be left out.
 #[derive(Clone, Copy)]
@@ -58,13 +58,13 @@ fn ttl_and_class(text: &[u8]) -> (Option<u32>, Option<DNSClass>, &[u8])
 }
 
 /// Returns the time to live that a text begins with, if any, and what is after it.
+#[inline(always)]
 fn ttl_next(text: &[u8]) -> (Option<u32>, &[u8])
     ensures is { IsTtlNext text.now result.0 result.1.now }
     ensures within { length result.1.now ≤ length text.now }
 {
-    let (word, rest) = next_word(text);
-    match ttl_of(word) {
-        Some(ttl) => (Some(ttl), rest),
+    match next_ttl(text) {
+        Some((ttl, rest)) => (Some(ttl), rest),
         None => (None, text),
     }
 }
