@@ -3,7 +3,7 @@ use Rattle.std.proofs.Common.{◌≡◌, ℕ, ◌≤◌, List, ◌++◌, Option,
 use Rattle.std.proofs.lemmas.List.{length-take-le, take-append-drop}
 use Rattle.dnw_base.specs.Names.{NameValue, wire}
 use Rattle.dnw_c_base.proofs.WireForms.{form_is}
-use Rattle.dnw_c_zone.specs.Inside.StateNames.{NamesFit, with_numbers, with_origin_form, with_owner_form}
+use Rattle.dnw_c_zone.specs.Inside.StateNames.{NamesFit, with_state_numbers, with_origin_form, with_owner_form}
 use Rattle.dnw_c_zone.specs.ParseCalls.{IsOrigin}
 use Rattle.dnw_c_zone.specs.ZoneStates.{IsContextOf, labels_of_name, owner_form, zone_state_of}
 use Rattle.dnw_c_zone.specs.declared.zone_place.FilePlace.{FilePlace}
@@ -35,24 +35,24 @@ owner_is form None is = is
 owner_is form (Some name) is = let (k, at) = is.1 in form_is form name.labels k at
 
 module _ (zone : ZoneState) (before after : Context) (at : FilePlace) (is : IsContextOf zone before) (fit : NamesFit zone) where
-  origin_kept : after.origin ≡ before.origin → with_origin_form (with_numbers zone after at) (wire after.origin.labels) ≡ with_numbers zone after at
+  origin_kept : after.origin ≡ before.origin → with_origin_form (with_state_numbers zone after at) (wire after.origin.labels) ≡ with_state_numbers zone after at
   origin_kept same =
       let (_, (_, (k, name)), _, _, _, _, _) = is in
-      keep_origin (with_numbers zone after at) (wire after.origin.labels) fit.0
+      keep_origin (with_state_numbers zone after at) (wire after.origin.labels) fit.0
       (form_is _ before.origin.labels k name ∙ ap (λ (n : NameValue). wire n.labels) (sym same))
 
-  owner_kept : after.owner ≡ before.owner → with_owner_form (with_numbers zone after at) (owner_form after.owner) ≡ with_numbers zone after at
+  owner_kept : after.owner ≡ before.owner → with_owner_form (with_state_numbers zone after at) (owner_form after.owner) ≡ with_state_numbers zone after at
   owner_kept same =
       let (name, _, form, labels, _, _, _) = is in
-      keep_owner (with_numbers zone after at) (owner_form after.owner) fit.1
+      keep_owner (with_state_numbers zone after at) (owner_form after.owner) fit.1
       (owner_is _ name form ∙ ap owner_form (sym labels ∙ sym same))
 
   -- the state after an entry that leaves the owner as it was, and after one that leaves the origin, or both
-  pub after_origin : after.owner ≡ before.owner → with_origin_form (with_numbers zone after at) (wire after.origin.labels) ≡ zone_state_of zone after at
+  pub after_origin : after.owner ≡ before.owner → with_origin_form (with_state_numbers zone after at) (wire after.origin.labels) ≡ zone_state_of zone after at
   after_origin same = ap (λ (z : ZoneState). with_origin_form z (wire after.origin.labels)) (sym (owner_kept same))
 
-  pub after_owner : after.origin ≡ before.origin → with_owner_form (with_numbers zone after at) (owner_form after.owner) ≡ zone_state_of zone after at
+  pub after_owner : after.origin ≡ before.origin → with_owner_form (with_state_numbers zone after at) (owner_form after.owner) ≡ zone_state_of zone after at
   after_owner same = ap (λ (z : ZoneState). with_owner_form z (owner_form after.owner)) (sym (origin_kept same))
 
-  pub after_neither : (after.origin ≡ before.origin) × (after.owner ≡ before.owner) → with_numbers zone after at ≡ zone_state_of zone after at
+  pub after_neither : (after.origin ≡ before.origin) × (after.owner ≡ before.owner) → with_state_numbers zone after at ≡ zone_state_of zone after at
   after_neither (origin, owner) = sym (owner_kept owner) ∙ after_owner origin

@@ -2,7 +2,7 @@
 ghost use Rattle.std.specs.Prelude.{◌≡◌, ◌≤◌, true, Some, length, take, IfSome, IfNone, MatchBool};
 ghost use Rattle.dnw_base.specs.Limits.{max_name};
 ghost use Rattle.dnw_base.specs.Names.{wire};
-ghost use Rattle.dnw_c_zone.specs.Inside.StateNames.{IsNoStateName, IsOwnerForm, KeepsNames, LacksStateName, NamesFit, changes_origin, changes_owner, with_numbers, with_origin_form, with_owner_form};
+ghost use Rattle.dnw_c_zone.specs.Inside.StateNames.{IsNoStateName, IsOwnerForm, KeepsNames, LacksStateName, NamesFit, changes_origin, changes_owner, with_state_numbers, with_origin_form, with_owner_form};
 ghost use Rattle.dnw_c_zone.specs.ParseCalls.{IsOrigin};
 ghost use Rattle.dnw_c_zone.specs.ZoneStates.{IsContextOf, LacksContext, has_number, no_state, or_zero, owner_form, place_of_state, zone_state_of, time_of};
 ghost use Rattle.dnw_name_read.specs.Buffers.{put};
@@ -123,7 +123,7 @@ fn changes_owner(found: &Result<Found, ZoneError>) -> bool
 
 /// Puts a place, and what else is known than names.
 fn put_numbers(zone: &mut ZoneState, context: &Context, at: FilePlace)
-    ensures { zone.new ≡ with_numbers zone.old context.now at }
+    ensures { zone.new ≡ with_state_numbers zone.old context.now at }
 {
     zone.offset = at.offset;
     zone.line = at.line;

@@ -17,7 +17,7 @@ ghost use Rattle.dnw_zone_data.specs.NumberForms.{number_forms};
 ghost use Rattle.dnw_zone_data.specs.DataTexts.{has_fields, has_own_form, has_field_text, is_blank, is_little_known, is_octets, is_unprinted, stand_in};
 ghost use Rattle.dnw_zone_data.specs.DataTexts.{without_space, ArePlain, IsPlainData, IsDataText, IsOwnText, IsTextOf, FailsGeneric, FailsText, LacksText};
 ghost use Rattle.dnw_zone_data.specs.Inside.Wires.{AppendsWires};
-ghost use Rattle.dnw_zone_data.specs.Inside.OwnTexts.{FailsOwn, generic_wanted};
+ghost use Rattle.dnw_zone_data.specs.Inside.OwnTexts.{FailsOwnText, generic_wanted};
 
 use crate::error::{DataTextError, Wanted};
 use crate::generic::{Generic, MARK, hex_words, parse_sized};
@@ -288,7 +288,7 @@ fn append_own(
     requires within { length text.now ≤ len }
     ensures { MatchResult result (λ _. (has_own_form kinds.now ≡ true) × (values : List FieldValue) × AreFieldTexts (option_copied origin.entry) forms.now kinds.now text.now values
         × (out.new.items ≡ out.old.items ++ flat_map field_wire values))
-        (FailsOwn (option_copied origin.entry) forms.now kinds.now len text.now) }
+        (FailsOwnText (option_copied origin.entry) forms.now kinds.now len text.now) }
 {
     if is_octets(kinds) {
         return Err(generic_wanted(len, text));

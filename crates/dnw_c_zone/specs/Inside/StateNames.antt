@@ -46,8 +46,8 @@ pub record KeepsNames (found : Result Found ZoneError) (before after : Context) 
   pub owner : changes_owner found ≡ false → after.owner ≡ before.owner
 
 -- the state with another place, and what else is known than names
-abbrev pub with_numbers : ZoneState → Context → FilePlace → ZoneState
-with_numbers zone context at = record zone {
+abbrev pub with_state_numbers : ZoneState → Context → FilePlace → ZoneState
+with_state_numbers zone context at = record zone {
   offset = at.offset;
   line = at.line;
   column = at.column;

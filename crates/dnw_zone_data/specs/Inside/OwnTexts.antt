@@ -16,7 +16,7 @@ abbrev pub generic_wanted : ℕ → List ℕ → DataTextError
 generic_wanted len text = fault 0 (len - length (after_spaces text)) Generic
 
 -- The type has no form of its own, or the text goes wrong at a field.
-abbrev pub FailsOwn : Option NameValue → List NumberForm → List Kind → ℕ → List ℕ → DataTextError → Type 0
-FailsOwn origin ways kinds len text e =
+abbrev pub FailsOwnText : Option NameValue → List NumberForm → List Kind → ℕ → List ℕ → DataTextError → Type 0
+FailsOwnText origin ways kinds len text e =
     ((has_own_form kinds ≡ false) × (e ≡ generic_wanted len text))
     ⊎ ((has_own_form kinds ≡ true) × ((e ≡ Memory) ⊎ FailsFields origin (length kinds) len ways kinds text e))
