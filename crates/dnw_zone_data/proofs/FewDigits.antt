@@ -5,7 +5,6 @@ use Rattle.std.specs.Char.{digit_value, is_ascii_digit}
 use Rattle.std.specs.List.{list_all}
 use Rattle.std.specs.Str.Parse.{AllDigits, digits_value, digits_value_after}
 use Rattle.std.proofs.lemmas.Bool.{and_parts, false≢true}
-use Rattle.std.proofs.lemmas.List.{take-append-drop}
 use Rattle.std.proofs.lemmas.Option.{same_Some}
 use Rattle.dnw_zone_lexer.specs.Times.{groups_after, max_ttl, total_seconds}
 use Rattle.dnw_zone_values.specs.Mnemonics.{IsNumberOrName, algorithm_named, begins_with_digit, certificate_type_named, protocol_named, scheme_named}
@@ -20,7 +19,7 @@ use Rattle.dnw_zone_data.specs.Parsing.{IsWord}
 use Rattle.dnw_zone_data.specs.declared.number_form.NumberForm.{NumberForm}
 use Rattle.dnw_zone_data.specs.declared.number_form.NumberForm.TheVariants.{Decimal, Period, Algorithm, CertificateType, Scheme, Protocol}
 use Rattle.dnw_zone_data.specs.NumberForms.{IsNumberIn, IsPeriod}
-use Rattle.dnw_zone_data.specs.Words.{after_word, is_end, word, word_len}
+use Rattle.dnw_zone_data.specs.Words.{after_word, is_end, word}
 use Rattle.dnw_zone_data.proofs.Plain.{all_plain, is_plain, plain_after, plain_word}
 
 -- The digits of a text up to what is left of it write this number.
@@ -96,12 +95,6 @@ number_end text left n so less end few =
     let rest : after_word text ≡ left = ap after_word so.whole ∙ plain_after front left plain end in
     let some : 0 < length front = omega (arith, less, ap length so.whole, length-append front left) in
     (rw same (digits_all front [] n some refl few all), sym rest)
-
--- a word that nothing is after
-pub whole_word : (text rest : List ℕ) → rest ≡ after_word text → length rest ≡ 0 → word text ≡ text
-whole_word text [] is none =
-    sym (append-nil (word text)) ∙ ap (λ (xs : List ℕ). word text ++ xs) is ∙ take-append-drop (word_len text) text
-whole_word text (c ∷ rest) is none = absurd (omega (arith, none))
 
 -- ---- each form
 

@@ -147,7 +147,7 @@ fn period_in(text: &[u8], max: u32) -> Option<u32>
     ensures is { MatchOption result ((n : ℕ) → ¬ (IsNumberIn NumberForm.Period max text.now n)) (IsNumberIn NumberForm.Period max text.now) }
     ensures few { IfSome result (λ n. n ≤ max) }
 {
-    let seconds = whole_seconds(text)?;
+    let seconds = period_seconds(text)?;
     if seconds <= max { Some(seconds) } else { None }
 }
 
@@ -239,19 +239,7 @@ fn is_at_end(text: &[u8]) -> bool
 
 /// Returns the seconds of a period: a number of seconds, or groups of digits and a unit, as `1h30m`; the units are `s`, `m`, `h`, `d`
 /// and `w`, in either case. After groups with a unit none comes without.
-#[inline(always)]
-#[tactic(auto, using(crate::proofs::FewDigits::whole_word))]
 pub fn period_seconds(text: &[u8]) -> Option<u32>
-    ensures { MatchOption result ((n : ℕ) → ¬ (IsPeriod text.now n)) (IsPeriod text.now) }
-{
-    match first_number(text) {
-        Some((seconds, rest)) if rest.is_empty() => Some(seconds),
-        _ => whole_seconds(text),
-    }
-}
-
-/// Returns the seconds of any period, as `period_seconds`.
-fn whole_seconds(text: &[u8]) -> Option<u32>
     ensures { MatchOption result ((n : ℕ) → ¬ (IsPeriod text.now n)) (IsPeriod text.now) }
 {
     if !is_whole(text) {
