@@ -6,3 +6,4 @@ pub mod Runs
 pub mod Windows
 pub mod DataLengths
 mod UsualWords
+mod Stops

@@ -88,23 +88,3 @@ plain_whole place text so others ending whole is none end =
     let here : line_from so place false others ≡ (so, end_at place false) = rw none refl in
     let all : so ≡ text = sym (append-nil so) ∙ ap (λ (x : List ℕ). so ++ x) (sym none) ∙ whole in
     sym is ∙ here ∙ ap (λ (x : List ℕ). (x, end_at place false)) all ∙ ap (λ (x : Ending). (text, x)) (sym end)
-
--- so many octets that are kept
-pub kept_block : (place : Place) (n : ℕ) (xs : List ℕ) → n ≤ length xs → list_all (is_kept place) (take n xs) ≡ true
-    → kept_len place xs ≡ n + kept_len place (drop n xs)
-kept_block place zero xs size all = omega arith
-kept_block place (suc n) [] size all = absurd (omega (arith, size))
-kept_block place (suc n) (c ∷ cs) size all = elim (cases_Bool (is_kept place c)) [
-  | inl is ↦ rw is (omega (arith, kept_block place n cs (omega (arith, size)) (rw is at all)))
-  | inr is ↦ absurd (let none : false ≡ true = rw is at all in cc)
-]
-
-pub block_more : (place : Place) (n : ℕ) (all left block rest : List ℕ) → n ≤ length left → block ≡ take n left → rest ≡ drop n left
-    → list_all (is_kept place) block ≡ true
-    → (length left ≤ length all) × ((length all - length left) + kept_len place left ≡ kept_len place all)
-    → (length rest ≤ length all) × ((length all - length rest) + kept_len place rest ≡ kept_len place all)
-block_more place n all left block rest size is-block is-rest kept so =
-    rw is-rest (
-      omega (arith, length-drop n left, so.0),
-      omega (arith, length-drop n left, kept_block place n left size (rw is-block at kept), so.0, so.1),
-    )

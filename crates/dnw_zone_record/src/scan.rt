@@ -1,16 +1,27 @@
 //! Entries of master files.
-ghost use Rattle.std.specs.Prelude.{◌≡◌, ◌≢◌, ◌==◌, ◌+◌, ◌-◌, ◌≤◌, ◌<◌, length, take, drop, not, IfOk, IfSome};
-ghost use Rattle.std.specs.List.{list_all};
+ghost use Rattle.std.specs.Prelude.{◌≡◌, ◌≢◌, ◌==◌, ◌+◌, ◌-◌, ◌≤◌, ◌<◌, length, take, drop, map, not, IfOk, IfSome};
+ghost use Rattle.std.specs.Simd.Lanes.{mask_l};
 ghost use Rattle.dnw_zone_data.specs.Words.{is_plain_octet};
 ghost use Rattle.dnw_zone_record.specs.declared.scan.Ending.TheVariants.{Line, Text};
 ghost use Rattle.dnw_zone_record.specs.Lines.{end_at, is_kept, is_quoted, kept_len, at_line_end, line_of, of_quoted, of_special, on_octet};
+ghost use Rattle.dnw_zone_record.specs.Inside.Stops.{is_listed, is_stop};
 
 use crate::word_error::WordRule;
 use dnw_zone_data::words::is_plain_octet;
 use std::alloc::AllocError;
+use std::simd::prelude::*;
 
-/// The octets that are looked at together.
-const BLOCK: usize = 16;
+/// How many octets are looked at together.
+const LANES: usize = 16;
+
+// The octets that are not kept outside of quotes, each at the place that is its low four bits. At each other place is an octet that
+// belongs elsewhere.
+#[rattlefmt::skip]
+const PLAIN_STOPS: [u8; 16] = [1, 0, b'"', 0, 0, 0, 0, 0, b'(', b')', b'\n', b';', b'\\', b'\r', 0, 0];
+
+// The octets that are not kept in quotes, as `PLAIN_STOPS` has others.
+#[rattlefmt::skip]
+const QUOTED_STOPS: [u8; 16] = [1, 0, b'"', 0, 0, 0, 0, 0, 0, 0, b'\n', 0, b'\\', 0, 0, 0];
 
 /// Where an octet of an entry is.
 #[derive(Clone, Copy)]
@@ -144,7 +155,14 @@ fn split_kept(place: Place, text: &[u8]) -> (&[u8], &[u8])
 fn after_plain(text: &[u8]) -> &[u8]
     ensures { kept_len Place.Words text.now + length result.now ≡ length text.now }
 {
-    let mut left = after_blocks(text);
+    let mut left = text;
+    'lanes: while left.len() >= LANES {
+        let stops = plain_stops(u8x16::from_slice(left));
+        if stops != 0 {
+            return &left[stops.trailing_zeros() as usize..];
+        }
+        left = &left[LANES..];
+    }
     // Four octets a round take less than one.
     'fours: while let [a, b, c, d, rest @ ..] = left {
         if !is_plain_octet(*a)
@@ -165,45 +183,12 @@ fn after_plain(text: &[u8]) -> &[u8]
     left
 }
 
-/// Returns what is left of a text after octets that are kept outside of quotes, a block at a time.
+/// Returns which octets are not kept outside of quotes: a bit for each, from the lowest on.
 #[inline(always)]
-fn after_blocks(text: &[u8]) -> &[u8]
-    ensures within { length result.now ≤ length text.now }
-    ensures kept { (length text.now - length result.now) + kept_len Place.Words result.now ≡ kept_len Place.Words text.now }
+fn plain_stops(lanes: u8x16) -> u64
+    ensures { result ≡ mask_l (map (is_stop Place.Words) lanes) }
 {
-    let mut left = text;
-    'many: while left.len() >= BLOCK {
-        let (block, rest) = left.split_at(BLOCK);
-        if !are_plain(block) {
-            break;
-        }
-        left = rest;
-    }
-    left
-}
-
-/// Returns `true` if octets outside of quotes are kept. It looks at all of them, so that the processor takes many at once.
-#[inline(always)]
-fn are_plain(octets: &[u8]) -> bool
-    ensures { result ≡ list_all is_plain_octet octets.now }
-{
-    let mut least = 255;
-    for c in octets {
-        least = least.min(plain_mark(*c));
-    }
-    least != 0
-}
-
-/// Returns 0 for an octet that outside of quotes, escapes and comments is more than a part of a word or white space, and else another
-/// number. It does not branch.
-#[inline(always)]
-fn plain_mark(c: u8) -> u8
-    ensures { not (result == 0) ≡ is_plain_octet c }
-{
-    let ends = (c ^ b'\n').min(c ^ b'\r');
-    let begins = (c ^ b'"').min(c ^ b'\\').min(c ^ b';');
-    // The two parentheses differ in the last bit.
-    ends.min(begins).min((c ^ b'(') & 254)
+    listed(u8x16::from_array(PLAIN_STOPS), lanes)
 }
 
 /// Returns what is left of a text after the octets that it begins with and that are kept in quotes.
@@ -211,7 +196,14 @@ fn plain_mark(c: u8) -> u8
 fn after_quoted(text: &[u8]) -> &[u8]
     ensures { kept_len Place.Quoted text.now + length result.now ≡ length text.now }
 {
-    let mut left = after_quoted_blocks(text);
+    let mut left = text;
+    'lanes: while left.len() >= LANES {
+        let stops = quoted_stops(u8x16::from_slice(left));
+        if stops != 0 {
+            return &left[stops.trailing_zeros() as usize..];
+        }
+        left = &left[LANES..];
+    }
     while let Some((first, rest)) = left.split_first() {
         if !is_quoted(*first) {
             break;
@@ -221,41 +213,21 @@ fn after_quoted(text: &[u8]) -> &[u8]
     left
 }
 
-/// Returns what is left of a text after octets that are kept in quotes, a block at a time.
+/// Returns which octets are not kept in quotes: a bit for each, from the lowest on.
 #[inline(always)]
-fn after_quoted_blocks(text: &[u8]) -> &[u8]
-    ensures within { length result.now ≤ length text.now }
-    ensures kept { (length text.now - length result.now) + kept_len Place.Quoted result.now ≡ kept_len Place.Quoted text.now }
+fn quoted_stops(lanes: u8x16) -> u64
+    ensures { result ≡ mask_l (map (is_stop Place.Quoted) lanes) }
 {
-    let mut left = text;
-    'many: while left.len() >= BLOCK {
-        let (block, rest) = left.split_at(BLOCK);
-        if !are_quoted(block) {
-            break;
-        }
-        left = rest;
-    }
-    left
+    listed(u8x16::from_array(QUOTED_STOPS), lanes)
 }
 
-/// Returns `true` if octets in quotes are kept. It looks at all of them, as `are_plain` does.
+/// Returns which octets a table has at their places: a bit for each, from the lowest on. The place of an octet is its low four bits.
 #[inline(always)]
-fn are_quoted(octets: &[u8]) -> bool
-    ensures { result ≡ list_all is_quoted octets.now }
+fn listed(table: u8x16, lanes: u8x16) -> u64
+    ensures { result ≡ mask_l (map (is_listed table) lanes) }
 {
-    let mut least = 255;
-    for c in octets {
-        least = least.min(quoted_mark(*c));
-    }
-    least != 0
-}
-
-/// Returns 0 for an octet that in a quoted string is more than a part of it, and else another number. It does not branch.
-#[inline(always)]
-fn quoted_mark(c: u8) -> u8
-    ensures { not (result == 0) ≡ is_quoted c }
-{
-    (c ^ b'\n').min(c ^ b'"').min(c ^ b'\\')
+    let places = lanes & u8x16::splat(15);
+    lanes.simd_eq(table.swizzle_dyn(places)).to_bitmask()
 }
 
 /// Returns how the line ends if the text ends here.
