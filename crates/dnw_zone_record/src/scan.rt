@@ -152,6 +152,7 @@ fn split_kept(place: Place, text: &[u8]) -> (&[u8], &[u8])
 
 /// Returns what is left of a text after the octets that it begins with and that are kept outside of quotes.
 #[inline(always)]
+#[tactic(auto, using(crate::proofs::Stops::passed, crate::proofs::Stops::stop_at, crate::proofs::Stops::stopped))]
 fn after_plain(text: &[u8]) -> &[u8]
     ensures { kept_len Place.Words text.now + length result.now ≡ length text.now }
 {
@@ -185,6 +186,7 @@ fn after_plain(text: &[u8]) -> &[u8]
 
 /// Returns which octets are not kept outside of quotes: a bit for each, from the lowest on.
 #[inline(always)]
+#[tactic(auto, using(crate::proofs::Stops::all_listed))]
 fn plain_stops(lanes: u8x16) -> u64
     ensures { result ≡ mask_l (map (is_stop Place.Words) lanes) }
 {
@@ -193,6 +195,7 @@ fn plain_stops(lanes: u8x16) -> u64
 
 /// Returns what is left of a text after the octets that it begins with and that are kept in quotes.
 #[inline(always)]
+#[tactic(auto, using(crate::proofs::Stops::passed, crate::proofs::Stops::stop_at, crate::proofs::Stops::stopped))]
 fn after_quoted(text: &[u8]) -> &[u8]
     ensures { kept_len Place.Quoted text.now + length result.now ≡ length text.now }
 {
@@ -215,6 +218,7 @@ fn after_quoted(text: &[u8]) -> &[u8]
 
 /// Returns which octets are not kept in quotes: a bit for each, from the lowest on.
 #[inline(always)]
+#[tactic(auto, using(crate::proofs::Stops::all_listed))]
 fn quoted_stops(lanes: u8x16) -> u64
     ensures { result ≡ mask_l (map (is_stop Place.Quoted) lanes) }
 {
@@ -223,6 +227,7 @@ fn quoted_stops(lanes: u8x16) -> u64
 
 /// Returns which octets a table has at their places: a bit for each, from the lowest on. The place of an octet is its low four bits.
 #[inline(always)]
+#[tactic(auto, using(crate::proofs::Stops::listed_mask, crate::proofs::Stops::places_fit))]
 fn listed(table: u8x16, lanes: u8x16) -> u64
     ensures { result ≡ mask_l (map (is_listed table) lanes) }
 {
