@@ -43,6 +43,20 @@ static const char LINES[] =
     "oJB1W6WNGv+ldvQ3WDG0MQkg5IEhjRip8WTrPYGv07h108dUKGMeDPKijVCHX3DDKdfb+v6oB9wfuh3DTJXUAfI/M0zmO/zz8bW0Rznl8O3t\n";
 #define LINES_LEN (sizeof LINES - 1)
 
+/* Eight records as people write them, in 264 octets: with an origin, owners, times and classes left out, tabs, and a comment. */
+static const char SHORT_LINES[] =
+    "$ORIGIN example.org.\n"
+    "$TTL 3600\n"
+    "host1\t300\tIN\tA\t10.1.0.1\n"
+    "\t\t\tAAAA\t2001:db8::1\n"
+    "\tTXT\t\"text of host 1\" ; quoted\n"
+    "host2 A 10.1.0.2\n"
+    "\tMX\t10 host1\n"
+    "www CNAME host1\n"
+    "sub 86400 NS ns.other.example.\n"
+    "  DS 12345 13 2 D4B7D520E7BB5F0F67674A0CCEB1E3E0614B93C4F9E99B8383F6A1E4469DA50A\n";
+#define SHORT_LINES_LEN (sizeof SHORT_LINES - 1)
+
 /* Queries for addresses with EDNS and DO: of a host, of a name below a zone that is delegated, and of a name that is not there. */
 #define ASKS(name) "\x12\x34\x01\x10\x00\x01\x00\x00\x00\x00\x00\x01" name "\x00\x00\x01\x00\x01\x00\x00\x29\x04\xd0\x00\x00\x80\x00\x00\x00"
 #define ZONE "\x07" "example\x03org"

@@ -17,6 +17,7 @@ int main(int argc, char **argv)
         {"message-walk", "message-walk", dnw_walk_message, RESPONSE, RESPONSE_LEN},
         {"message-look", "message-walk", dnw_read_message, RESPONSE, RESPONSE_LEN},
         {"8-entries-read", "8-entries-read", dnw_read_zone, (const uint8_t *)LINES, LINES_LEN},
+        {"8-short-entries-read", "8-short-entries-read", dnw_read_zone, (const uint8_t *)SHORT_LINES, SHORT_LINES_LEN},
     };
     begin();
     for (size_t i = 0; i < sizeof rows / sizeof rows[0]; i++)

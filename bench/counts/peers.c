@@ -264,7 +264,7 @@ static void knot_record(zs_scanner_t *scanner)
     sum += scanner->r_owner_length + scanner->r_data_length + 10;
 }
 
-static void knot_lines(void)
+static void knot_zone(const char *text, size_t len)
 {
     static zs_scanner_t scanner;
     static bool is_made;
@@ -272,7 +272,17 @@ static void knot_lines(void)
         must(zs_init(&scanner, "example.org.", 1, 3600) == 0);
     is_made = true;
     must(zs_set_processing(&scanner, knot_record, NULL, NULL) == 0);
-    must(zs_set_input_string(&scanner, LINES, LINES_LEN) == 0 && zs_parse_all(&scanner) == 0);
+    must(zs_set_input_string(&scanner, text, len) == 0 && zs_parse_all(&scanner) == 0);
+}
+
+static void knot_lines(void)
+{
+    knot_zone(LINES, LINES_LEN);
+}
+
+static void knot_short_lines(void)
+{
+    knot_zone(SHORT_LINES, SHORT_LINES_LEN);
 }
 
 static void ldns_lines(void)
@@ -303,6 +313,7 @@ int main(int argc, char **argv)
         {"message-walk", knot_walk, ldns_walk}, {"table-read", knot_walk, ldns_walk}, {"message-pack", knot_pack, ldns_pack},
         {"answer-write", knot_answer, NULL}, {"referral-write", knot_referral, NULL}, {"nxdomain-write", knot_nxdomain, NULL},
         {"record-print", knot_print, ldns_print}, {"8-records-parse", knot_lines, ldns_lines}, {"8-entries-read", knot_lines, ldns_lines},
+        {"8-short-entries-read", knot_short_lines, NULL},
     };
     begin();
     make_sets(&answer, ANSWER, COUNT(ANSWER));

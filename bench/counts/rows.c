@@ -207,7 +207,7 @@ static void records_parse(void)
     }
 }
 
-static void entries_read(void)
+static void read_zone(const char *text, size_t len)
 {
     static uint8_t octets[DNW_ZONE_OCTETS_SIZE];
     struct dnw_zone zone;
@@ -215,10 +215,20 @@ static void entries_read(void)
     size_t at = 0;
     must(dnw_zone_begin(NAME, NAME_LEN, &zone));
     do {
-        must(dnw_zone_next((const uint8_t *)LINES + at, LINES_LEN - at, false, &zone, octets, sizeof octets, &entry));
+        must(dnw_zone_next((const uint8_t *)text + at, len - at, false, &zone, octets, sizeof octets, &entry));
         at += entry.used;
         sum += entry.len;
     } while (entry.kind != DNW_ZONE_END);
+}
+
+static void entries_read(void)
+{
+    read_zone(LINES, LINES_LEN);
+}
+
+static void short_entries_read(void)
+{
+    read_zone(SHORT_LINES, SHORT_LINES_LEN);
 }
 
 int main(int argc, char **argv)
@@ -232,6 +242,7 @@ int main(int argc, char **argv)
         {"table-read", table_read}, {"message-pack", message_pack}, {"answer-write", answer_write}, {"referral-write", referral_write},
         {"nxdomain-write", nxdomain_write}, {"record-print", record_print}, {"signed-one", signed_one}, {"types-read", types_read},
         {"8-records-parse", records_parse}, {"8-entries-read", entries_read},
+        {"8-short-entries-read", short_entries_read},
     };
     if (argc != 3) {
         for (size_t i = 0; i < sizeof rows / sizeof rows[0]; i++)
