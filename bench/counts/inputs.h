@@ -43,6 +43,26 @@ static const char LINES[] =
     "oJB1W6WNGv+ldvQ3WDG0MQkg5IEhjRip8WTrPYGv07h108dUKGMeDPKijVCHX3DDKdfb+v6oB9wfuh3DTJXUAfI/M0zmO/zz8bW0Rznl8O3t\n";
 #define LINES_LEN (sizeof LINES - 1)
 
+/* A text. */
+struct text {
+    const char *text;
+    size_t len;
+};
+enum { A_LINE = 0, NSEC3_LINE = 6, RRSIG_LINE = 7, TIMES = 64 };
+
+/* One of these lines, from 0, so many times. The text is there until the next call. */
+static struct text line_repeated(int number)
+{
+    static char text[TIMES * 256];
+    const char *line = LINES;
+    for (; number > 0; number--)
+        line = strchr(line, '\n') + 1;
+    size_t len = (size_t)(strchr(line, '\n') + 1 - line);
+    for (size_t i = 0; i < TIMES; i++)
+        memcpy(text + i * len, line, len);
+    return (struct text){text, TIMES * len};
+}
+
 /* Eight records as people write them, in 264 octets: with an origin, owners, times and classes left out, tabs, and a comment. */
 static const char SHORT_LINES[] =
     "$ORIGIN example.org.\n"

@@ -285,6 +285,27 @@ static void knot_short_lines(void)
     knot_zone(SHORT_LINES, SHORT_LINES_LEN);
 }
 
+static void knot_line(int number)
+{
+    struct text line = line_repeated(number);
+    knot_zone(line.text, line.len);
+}
+
+static void knot_a(void)
+{
+    knot_line(A_LINE);
+}
+
+static void knot_nsec3(void)
+{
+    knot_line(NSEC3_LINE);
+}
+
+static void knot_rrsig(void)
+{
+    knot_line(RRSIG_LINE);
+}
+
 static void ldns_lines(void)
 {
     char line[256];
@@ -313,7 +334,8 @@ int main(int argc, char **argv)
         {"message-walk", knot_walk, ldns_walk}, {"table-read", knot_walk, ldns_walk}, {"message-pack", knot_pack, ldns_pack},
         {"answer-write", knot_answer, NULL}, {"referral-write", knot_referral, NULL}, {"nxdomain-write", knot_nxdomain, NULL},
         {"record-print", knot_print, ldns_print}, {"8-records-parse", knot_lines, ldns_lines}, {"8-entries-read", knot_lines, ldns_lines},
-        {"8-short-entries-read", knot_short_lines, NULL},
+        {"8-short-entries-read", knot_short_lines, NULL}, {"64-A-entries-read", knot_a, NULL}, {"64-NSEC3-entries-read", knot_nsec3, NULL},
+        {"64-RRSIG-entries-read", knot_rrsig, NULL},
     };
     begin();
     make_sets(&answer, ANSWER, COUNT(ANSWER));
