@@ -1,8 +1,10 @@
 //! Zone files, entry by entry, of which the caller keeps the state and has the text in parts.
 ghost use Rattle.std.specs.Prelude.{◌≡◌, IfOk, IfErr};
 ghost use Rattle.dnw_c_base.specs.Results.{Returns};
+ghost use Rattle.dnw_c_zone.specs.Inside.StateNames.{KeepsNames};
 ghost use Rattle.dnw_c_zone.specs.Inside.StateResults.{with_entry, with_state};
 ghost use Rattle.dnw_c_zone.specs.ZoneFileCalls.{BeginsZone, IncludesFile, IsGivenOrigin, LacksOrigin, TakesZoneEntry};
+ghost use Rattle.dnw_zone_file.specs.Steps.{IsStep};
 
 use crate::parsing::origin_of;
 use crate::zone_entry::{ZoneEntry, put_found};
@@ -14,7 +16,7 @@ use dnw_c_base::failure::Failure;
 use dnw_c_base::results::report;
 use dnw_name::name::Name;
 use dnw_zone_file::context::Context;
-use dnw_zone_file::step::take_entry;
+use dnw_zone_file::step::{Step, take_entry};
 use std::alloc::Global;
 
 /// The place before the first octet of a file.
@@ -105,8 +107,7 @@ fn next(
         return Err(Failure::BadItem);
     }
     let at = place_of_state(zone);
-    let mut line = Vec::new(alloc);
-    let step = take_entry(alloc, &mut context, text, more, &mut line);
+    let step = step_of(alloc, &mut context, text, more);
     match put_found(alloc, at, text, &context, &step, octets, entry) {
         Ok(()) => {
             move_state(zone, &context, moved(at, text, step.used), &step.found);
@@ -114,4 +115,15 @@ fn next(
         }
         Err(failure) => Err(failure),
     }
+}
+
+/// Takes what a text begins with, after the entries that made the context. What it does not change of the names stays in the context.
+#[inline(always)]
+#[tactic(auto, using(crate::proofs::StepNames::step_keeps))]
+fn step_of(alloc: Global, context: &mut Context, text: &[u8], more: bool) -> Step
+    ensures is { IsStep context.old text.now more result context.new }
+    ensures keeps { KeepsNames result.found context.old context.new }
+{
+    let mut line = Vec::new(alloc);
+    take_entry(alloc, context, text, more, &mut line)
 }
