@@ -43,26 +43,6 @@ static const char LINES[] =
     "oJB1W6WNGv+ldvQ3WDG0MQkg5IEhjRip8WTrPYGv07h108dUKGMeDPKijVCHX3DDKdfb+v6oB9wfuh3DTJXUAfI/M0zmO/zz8bW0Rznl8O3t\n";
 #define LINES_LEN (sizeof LINES - 1)
 
-/* A text. */
-struct text {
-    const char *text;
-    size_t len;
-};
-enum { A_LINE = 0, NSEC3_LINE = 6, RRSIG_LINE = 7, TIMES = 64 };
-
-/* One of these lines, from 0, so many times. The text is there until the next call. */
-static struct text line_repeated(int number)
-{
-    static char text[TIMES * 256];
-    const char *line = LINES;
-    for (; number > 0; number--)
-        line = strchr(line, '\n') + 1;
-    size_t len = (size_t)(strchr(line, '\n') + 1 - line);
-    for (size_t i = 0; i < TIMES; i++)
-        memcpy(text + i * len, line, len);
-    return (struct text){text, TIMES * len};
-}
-
 /* Eight records as people write them, in 264 octets: with an origin, owners, times and classes left out, tabs, and a comment. */
 static const char SHORT_LINES[] =
     "$ORIGIN example.org.\n"
@@ -75,7 +55,32 @@ static const char SHORT_LINES[] =
     "www CNAME host1\n"
     "sub 86400 NS ns.other.example.\n"
     "  DS 12345 13 2 D4B7D520E7BB5F0F67674A0CCEB1E3E0614B93C4F9E99B8383F6A1E4469DA50A\n";
-#define SHORT_LINES_LEN (sizeof SHORT_LINES - 1)
+
+/* The zone files of rows: the short lines, or one of the eight lines, from 0, so many times. The row's name begins with the number of its
+   records. */
+enum { TIMES = 64 };
+static const struct zone_row {
+    const char *name;
+    int line; /* -1 for the short lines */
+} ZONE_ROWS[] = {{"8-short-entries-read", -1}, {"64-A-entries-read", 0}, {"64-NSEC3-entries-read", 6}, {"64-RRSIG-entries-read", 7}};
+
+/* The text of a row, and its octets. It is there until the next call. */
+static const char *zone_text(const struct zone_row *row, size_t *len)
+{
+    static char text[TIMES * 256];
+    const char *line = LINES;
+    if (row->line < 0) {
+        *len = sizeof SHORT_LINES - 1;
+        return SHORT_LINES;
+    }
+    for (int number = 0; number < row->line; number++)
+        line = strchr(line, '\n') + 1;
+    size_t line_len = (size_t)(strchr(line, '\n') + 1 - line);
+    for (size_t i = 0; i < TIMES; i++)
+        memcpy(text + i * line_len, line, line_len);
+    *len = TIMES * line_len;
+    return text;
+}
 
 /* Queries for addresses with EDNS and DO: of a host, of a name below a zone that is delegated, and of a name that is not there. */
 #define ASKS(name) "\x12\x34\x01\x10\x00\x01\x00\x00\x00\x00\x00\x01" name "\x00\x00\x01\x00\x01\x00\x00\x29\x04\xd0\x00\x00\x80\x00\x00\x00"

@@ -6,58 +6,30 @@
 
 #include <stdlib.h>
 
-static struct text response(void)
-{
-    return (struct text){(const char *)RESPONSE, RESPONSE_LEN};
-}
-
-static struct text lines(void)
-{
-    return (struct text){LINES, LINES_LEN};
-}
-
-static struct text short_lines(void)
-{
-    return (struct text){SHORT_LINES, SHORT_LINES_LEN};
-}
-
-static struct text a_lines(void)
-{
-    return line_repeated(A_LINE);
-}
-
-static struct text nsec3_lines(void)
-{
-    return line_repeated(NSEC3_LINE);
-}
-
-static struct text rrsig_lines(void)
-{
-    return line_repeated(RRSIG_LINE);
-}
-
 int main(int argc, char **argv)
 {
     static const struct {
         const char *name, *peer;
         uint64_t (*does)(const uint8_t *octets, size_t len, uint64_t count);
-        struct text (*input)(void);
+        const uint8_t *octets;
+        size_t len;
     } rows[] = {
-        {"message-walk", "message-walk", dnw_walk_message, response},
-        {"message-look", "message-walk", dnw_read_message, response},
-        {"8-entries-read", "8-entries-read", dnw_read_zone, lines},
-        {"8-short-entries-read", "8-short-entries-read", dnw_read_zone, short_lines},
-        {"64-A-entries-read", "64-A-entries-read", dnw_read_zone, a_lines},
-        {"64-NSEC3-entries-read", "64-NSEC3-entries-read", dnw_read_zone, nsec3_lines},
-        {"64-RRSIG-entries-read", "64-RRSIG-entries-read", dnw_read_zone, rrsig_lines},
+        {"message-walk", "message-walk", dnw_walk_message, RESPONSE, RESPONSE_LEN},
+        {"message-look", "message-walk", dnw_read_message, RESPONSE, RESPONSE_LEN},
+        {"8-entries-read", "8-entries-read", dnw_read_zone, (const uint8_t *)LINES, LINES_LEN},
     };
     begin();
-    for (size_t i = 0; i < sizeof rows / sizeof rows[0]; i++)
+    for (size_t i = 0; i < COUNT(rows); i++)
         if (argc != 3)
             printf("%s %s\n", rows[i].name, rows[i].peer);
-        else if (strcmp(argv[1], rows[i].name) == 0) {
-            struct text it = rows[i].input();
-            printf("%llu\n", (unsigned long long)rows[i].does((const uint8_t *)it.text, it.len, strtoull(argv[2], NULL, 10)));
+        else if (strcmp(argv[1], rows[i].name) == 0)
+            printf("%llu\n", (unsigned long long)rows[i].does(rows[i].octets, rows[i].len, strtoull(argv[2], NULL, 10)));
+    for (size_t i = 0, len; i < COUNT(ZONE_ROWS); i++)
+        if (argc != 3)
+            printf("%s %s\n", ZONE_ROWS[i].name, ZONE_ROWS[i].name);
+        else if (strcmp(argv[1], ZONE_ROWS[i].name) == 0) {
+            const char *text = zone_text(&ZONE_ROWS[i], &len);
+            printf("%llu\n", (unsigned long long)dnw_read_zone((const uint8_t *)text, len, strtoull(argv[2], NULL, 10)));
         }
     return argc == 3 ? 0 : 2;
 }

@@ -280,32 +280,6 @@ static void knot_lines(void)
     knot_zone(LINES, LINES_LEN);
 }
 
-static void knot_short_lines(void)
-{
-    knot_zone(SHORT_LINES, SHORT_LINES_LEN);
-}
-
-static void knot_line(int number)
-{
-    struct text line = line_repeated(number);
-    knot_zone(line.text, line.len);
-}
-
-static void knot_a(void)
-{
-    knot_line(A_LINE);
-}
-
-static void knot_nsec3(void)
-{
-    knot_line(NSEC3_LINE);
-}
-
-static void knot_rrsig(void)
-{
-    knot_line(RRSIG_LINE);
-}
-
 static void ldns_lines(void)
 {
     char line[256];
@@ -334,8 +308,6 @@ int main(int argc, char **argv)
         {"message-walk", knot_walk, ldns_walk}, {"table-read", knot_walk, ldns_walk}, {"message-pack", knot_pack, ldns_pack},
         {"answer-write", knot_answer, NULL}, {"referral-write", knot_referral, NULL}, {"nxdomain-write", knot_nxdomain, NULL},
         {"record-print", knot_print, ldns_print}, {"8-records-parse", knot_lines, ldns_lines}, {"8-entries-read", knot_lines, ldns_lines},
-        {"8-short-entries-read", knot_short_lines, NULL}, {"64-A-entries-read", knot_a, NULL}, {"64-NSEC3-entries-read", knot_nsec3, NULL},
-        {"64-RRSIG-entries-read", knot_rrsig, NULL},
     };
     begin();
     make_sets(&answer, ANSWER, COUNT(ANSWER));
@@ -347,6 +319,14 @@ int main(int argc, char **argv)
         else if (strcmp(argv[2], rows[i].name) == 0)
             for (long left = atol(argv[3]); left > 0; left--)
                 (strcmp(argv[1], "libknot") == 0 ? rows[i].knot : rows[i].ldns)();
+    for (size_t i = 0, len; i < COUNT(ZONE_ROWS); i++)
+        if (argc != 4)
+            printf("libknot %s\n", ZONE_ROWS[i].name);
+        else if (strcmp(argv[2], ZONE_ROWS[i].name) == 0) {
+            const char *text = zone_text(&ZONE_ROWS[i], &len);
+            for (long left = atol(argv[3]); left > 0; left--)
+                knot_zone(text, len);
+        }
     if (argc == 4)
         printf("%llu\n", (unsigned long long)sum);
     return argc == 4 ? 0 : 2;

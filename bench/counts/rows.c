@@ -226,32 +226,6 @@ static void entries_read(void)
     read_zone(LINES, LINES_LEN);
 }
 
-static void short_entries_read(void)
-{
-    read_zone(SHORT_LINES, SHORT_LINES_LEN);
-}
-
-static void read_line(int number)
-{
-    struct text line = line_repeated(number);
-    read_zone(line.text, line.len);
-}
-
-static void a_read(void)
-{
-    read_line(A_LINE);
-}
-
-static void nsec3_read(void)
-{
-    read_line(NSEC3_LINE);
-}
-
-static void rrsig_read(void)
-{
-    read_line(RRSIG_LINE);
-}
-
 int main(int argc, char **argv)
 {
     static const struct {
@@ -263,12 +237,12 @@ int main(int argc, char **argv)
         {"table-read", table_read}, {"message-pack", message_pack}, {"answer-write", answer_write}, {"referral-write", referral_write},
         {"nxdomain-write", nxdomain_write}, {"record-print", record_print}, {"signed-one", signed_one}, {"types-read", types_read},
         {"8-records-parse", records_parse}, {"8-entries-read", entries_read},
-        {"8-short-entries-read", short_entries_read}, {"64-A-entries-read", a_read}, {"64-NSEC3-entries-read", nsec3_read},
-        {"64-RRSIG-entries-read", rrsig_read},
     };
     if (argc != 3) {
         for (size_t i = 0; i < sizeof rows / sizeof rows[0]; i++)
             puts(rows[i].name);
+        for (size_t i = 0; i < COUNT(ZONE_ROWS); i++)
+            puts(ZONE_ROWS[i].name);
         return 2;
     }
     begin();
@@ -276,6 +250,12 @@ int main(int argc, char **argv)
         if (strcmp(argv[1], rows[i].name) == 0)
             for (long left = atol(argv[2]); left > 0; left--)
                 rows[i].does();
+    for (size_t i = 0, len; i < COUNT(ZONE_ROWS); i++)
+        if (strcmp(argv[1], ZONE_ROWS[i].name) == 0) {
+            const char *text = zone_text(&ZONE_ROWS[i], &len);
+            for (long left = atol(argv[2]); left > 0; left--)
+                read_zone(text, len);
+        }
     printf("%llu\n", (unsigned long long)sum);
     return 0;
 }
