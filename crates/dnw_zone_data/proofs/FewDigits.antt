@@ -1,10 +1,10 @@
 -- Digits alone are the same number in each form.
-use Rattle.std.proofs.Common.{◌≡◌, ◌≢◌, ℕ, ◌+◌, ◌-◌, ◌*◌, ◌<◌, ◌≤◌, Bool, true, false, List, [], ◌∷◌, ◌++◌, length, refl, sym, ap, subst, ◌∙◌, arith, append_assoc, append-nil, length-append}
+use Rattle.std.proofs.Common.{◌≡◌, ◌≢◌, ℕ, ◌+◌, ◌-◌, ◌*◌, ◌<◌, ◌≤◌, ◌⊎◌, Bool, true, false, List, [], ◌∷◌, ◌++◌, length, drop, get_or, refl, sym, ap, ap₂, subst, ◌∙◌, arith, inl, inr, append_assoc, append-nil, length-append, take-append-drop}
 use Rattle.std.specs.Prelude.{Option, Some, None, option_map}
 use Rattle.std.specs.Char.{digit_value, is_ascii_digit}
 use Rattle.std.specs.List.{list_all}
 use Rattle.std.specs.Str.Parse.{AllDigits, digits_value, digits_value_after}
-use Rattle.std.proofs.lemmas.Bool.{and_parts, false≢true}
+use Rattle.std.proofs.lemmas.Bool.{and_parts, cases_Bool, false≢true}
 use Rattle.std.proofs.lemmas.Option.{same_Some}
 use Rattle.dnw_zone_lexer.specs.Times.{groups_after, max_ttl, total_seconds}
 use Rattle.dnw_zone_values.specs.Mnemonics.{IsNumberOrName, algorithm_named, begins_with_digit, certificate_type_named, protocol_named, scheme_named}
@@ -18,8 +18,8 @@ use Rattle.dnw_zone_data.specs.Inside.Reads.{HasNumber, is_number}
 use Rattle.dnw_zone_data.specs.Parsing.{IsWord}
 use Rattle.dnw_zone_data.specs.declared.number_form.NumberForm.{NumberForm}
 use Rattle.dnw_zone_data.specs.declared.number_form.NumberForm.TheVariants.{Decimal, Period, Algorithm, CertificateType, Scheme, Protocol}
-use Rattle.dnw_zone_data.specs.NumberForms.{IsNumberIn, IsPeriod}
-use Rattle.dnw_zone_data.specs.Words.{after_word, is_end, word}
+use Rattle.dnw_zone_data.specs.NumberForms.{most_short, IsNumberIn, IsPeriod}
+use Rattle.dnw_zone_data.specs.Words.{after_word, is_end, is_space, word, word_len}
 use Rattle.dnw_zone_data.proofs.Plain.{all_plain, is_plain, plain_after, plain_word}
 
 -- The digits of a text up to what is left of it write this number.
@@ -95,6 +95,73 @@ number_end text left n so less end few =
     let rest : after_word text ≡ left = ap after_word so.whole ∙ plain_after front left plain end in
     let some : 0 < length front = omega (arith, less, ap length so.whole, length-append front left) in
     (rw same (digits_all front [] n some refl few all), sym rest)
+
+-- ---- the first word, if its number is short
+
+is_digit : (c : ℕ) → digit_value c < 10 → is_ascii_digit c ≡ true
+is_digit c few = grind arith
+
+digit_at : (front cs : List ℕ) (c : ℕ) → AllDigits 10 (front ++ c ∷ cs) → digit_value c < 10
+digit_at [] cs c all = all.0
+digit_at (d ∷ front) cs c all = digit_at front cs c all.1
+
+grows : (n : ℕ) (text : List ℕ) → n ≤ digits_value_after 10 n text
+grows n [] = omega arith
+grows n (c ∷ cs) = omega (arith, grows (n * 10 + digit_value c) cs)
+
+-- The digits before white space or the end go on from those of the front.
+record GoOn (front digits rest left : List ℕ) : Type 0 where
+  more : List ℕ
+  all : digits ≡ front ++ more
+  others : left ≡ more ++ rest
+
+no_space : (c : ℕ) → is_ascii_digit c ≡ true → is_space c ≡ false
+no_space c is = grind arith
+
+go_on : (front digits rest left : List ℕ) → list_all is_ascii_digit front ≡ true → front ++ left ≡ digits ++ rest → is_end rest ≡ true → GoOn front digits rest left
+go_on [] digits rest left all same end = record { more = digits; all = refl; others = same }
+go_on (c ∷ front) [] [] left all same end = absurd (cc)
+go_on (c ∷ front) [] (d ∷ rest) left all same end =
+    let first : c ≡ d = ap (λ (xs : List ℕ). get_or xs 0 0) same in
+    absurd (false≢true (sym (no_space c (and_parts (is_ascii_digit c) (list_all is_ascii_digit front) all).0) ∙ ap is_space first ∙ end))
+go_on (c ∷ front) (d ∷ digits) rest left all same end =
+    let first : c ≡ d = ap (λ (xs : List ℕ). get_or xs 0 0) same in
+    let so = go_on front digits rest left (and_parts (is_ascii_digit c) (list_all is_ascii_digit front) all).1 (ap (drop 1) same) end in
+    record { more = so.more; all = ap₂ (λ (x : ℕ) (l : List ℕ). x ∷ l) (sym first) so.all; others = so.others }
+
+-- What is left begins with no digit, or one more may be too many.
+abbrev pub Stops : ℕ → List ℕ → Type 0
+Stops n left = (c : ℕ) (cs : List ℕ) → left ≡ c ∷ cs → is_ascii_digit c ≡ true → 429496728 < n
+
+pub stops_at : (n c : ℕ) (left rest : List ℕ) → left ≡ c ∷ rest → is_ascii_digit c ≡ false → Stops n left
+stops_at n c left rest here none = λ d cs first is.
+    absurd (false≢true (sym none ∙ ap (λ (xs : List ℕ). is_ascii_digit (get_or xs 0 0)) (sym here ∙ first) ∙ is))
+
+pub stops_without : (n : ℕ) (left : List ℕ) → length left ≡ 0 → Stops n left
+stops_without n left none = λ c cs first is. absurd (omega (arith, ap length first, none))
+
+ends_short : (text left rest more : List ℕ) (n m : ℕ) (so : NumberAt text left n) → Stops n left → word text ≡ so.front ++ more → left ≡ more ++ rest
+    → IsNumberText most_short (word text) m → (length left ≡ length text) ⊎ (is_end left ≡ false) → is_end rest ≡ false
+ends_short text left rest [] n m so stops all others is (inl none) =
+    let some : 0 < length (word text) = is.0.0 in
+    absurd (omega (arith, some, ap length all, length-append so.front [], ap length so.whole, length-append so.front left, none))
+ends_short text left rest [] n m so stops all others is (inr end) = ap is_end (sym others) ∙ end
+ends_short text left rest (c ∷ more) n m so stops all others is end =
+    let few = digit_at so.front more c (subst (λ (xs : List ℕ). AllDigits 10 xs) all is.0.1) in
+    let large : 429496728 < n = stops c (more ++ rest) others (is_digit c few) in
+    let value : digits_value_after 10 n (c ∷ more) ≡ m = sym (so.value (c ∷ more)).value ∙ ap (digits_value 10) (sym all) ∙ is.1 in
+    absurd (omega (arith, large, grows (n * 10 + digit_value c) more, value, is.2))
+
+pub short_read : (text left : List ℕ) (n : ℕ) → NumberAt text left n → Stops n left → (length left ≡ length text) ⊎ (is_end left ≡ false)
+    → (m : ℕ) → IsNumberText most_short (word text) m → is_end (after_word text) ≡ false
+short_read text left n so stops end m is = elim (cases_Bool (is_end (after_word text))) [
+  | inl space ↦
+      let front : List ℕ = so.front in
+      let all : AreDigits front n [] = subst (λ (xs : List ℕ). AreDigits xs n []) (append-nil front) (so.value []) in
+      let on = go_on front (word text) (after_word text) left (all.digits refl) (sym so.whole ∙ sym (take-append-drop (word_len text) text)) space in
+      ends_short text left (after_word text) on.more n m so stops on.all on.others is end
+  | inr none ↦ none
+]
 
 -- ---- each form
 

@@ -54,6 +54,10 @@ is_whole text = list_all is_ascii_digit text || not (ends_with_digit text)
 abbrev pub IsPeriod : List ℕ → ℕ → Type 0
 IsPeriod text n = (time_seconds text ≡ Some n) × (n ≤ max_ttl) × (is_whole text ≡ true)
 
+-- the greatest number whose digits but the last are at most 429,496,728
+abbrev pub most_short : ℕ
+most_short = 4294967289
+
 -- the text is this number in a form, which is no greater than the first
 abbrev pub IsNumberIn : NumberForm → ℕ → List ℕ → ℕ → Type 0
 IsNumberIn Decimal max text n = IsNumberText max text n

@@ -1,10 +1,10 @@
 //! How the numbers in data of each type are written.
-ghost use Rattle.std.specs.Prelude.{◌≡◌, ◌≤◌, ℕ, true, length, IfSome, MatchOption};
+ghost use Rattle.std.specs.Prelude.{◌≡◌, ◌≤◌, ℕ, false, length, IfNone, IfSome, MatchOption};
 ghost use Rattle.std.specs.Char.{is_ascii_digit};
 ghost use Rattle.std.specs.List.{list_all};
 ghost use Rattle.dnw_base.specs.RecordTypes.{type_code};
 ghost use Rattle.dnw_zone_values.specs.Numbers.{max_u8, max_u16, max_u32, IsNumberText};
-ghost use Rattle.dnw_zone_data.specs.NumberForms.{ends_with_digit, first_form, is_one_of, is_whole, number_forms, other_forms, with_algorithm_second, with_algorithm_third, IsNumberIn, IsPeriod};
+ghost use Rattle.dnw_zone_data.specs.NumberForms.{ends_with_digit, first_form, is_one_of, is_whole, most_short, number_forms, other_forms, with_algorithm_second, with_algorithm_third, IsNumberIn, IsPeriod};
 ghost use Rattle.dnw_zone_data.specs.Words.{after_word, is_end, word};
 
 use dnw_base::record_type::RecordType;
@@ -199,11 +199,12 @@ fn protocol_in(text: &[u8], max: u32) -> Option<u32>
     if number <= max { Some(number) } else { None }
 }
 
-/// Returns the number that the first word of a text is in each form, and what is after it, if it is digits up to a space or the text's
-/// end and none of them brings it near 2^32, as most numbers are. So the word's end need not be looked for.
+/// Returns the number that the first word of a text is in each form, and what is after it, if the word is digits up to white space or the
+/// text's end, and the number is at most 4,294,967,289. So the word's end need not be looked for.
 #[inline(always)]
 #[tactic(auto, using(crate::proofs::FewDigits::number_more))]
 pub fn first_number(text: &[u8]) -> Option<(u32, &[u8])>
+    ensures none { IfNone result ((n : ℕ) → IsNumberText most_short (word text.now) n → is_end (after_word text.now) ≡ false) }
     ensures number { IfSome result (λ r. IsNumberText max_u32 (word text.now) r.0 × IsPeriod (word text.now) r.0) }
     ensures rest { IfSome result (λ r. r.1.now ≡ after_word text.now) }
     ensures within { IfSome result (λ r. length r.1.now ≤ length text.now) }
@@ -217,22 +218,19 @@ pub fn first_number(text: &[u8]) -> Option<(u32, &[u8])>
         number = 10 * number + u32::from(*c - b'0');
         left = rest;
     }
-    if left.len() == text.len() {
-        return None;
-    }
-    if !is_at_end(left) {
+    if left.len() == text.len() || !is_end(left) {
         return None;
     }
     Some((number, left))
 }
 
-/// Returns `true` if a word ends before a text: the text is empty, or begins with a space.
+/// Returns `true` if a word ends before a text: the text is empty, or begins with white space.
 #[inline(always)]
-fn is_at_end(text: &[u8]) -> bool
-    ensures { result ≡ true → is_end text.now ≡ true }
+fn is_end(text: &[u8]) -> bool
+    ensures { result ≡ is_end text.now }
 {
     match text.first() {
-        Some(first) => *first == b' ',
+        Some(first) => matches!(*first, b' ' | b'\t' | b'\r' | b'\n'),
         None => true,
     }
 }
