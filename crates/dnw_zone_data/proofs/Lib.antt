@@ -45,6 +45,6 @@ pub mod TextKinds
 mod PlainTexts
 mod UsualWords
 mod Marks
-mod Lanes
+pub mod Lanes
 mod FirstWindow
 mod Spaces

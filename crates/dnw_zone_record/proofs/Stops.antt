@@ -1,5 +1,5 @@
 -- Octets that are looked at together.
-use Rattle.std.proofs.Common.{◌≡◌, ◌≢◌, ℕ, zero, suc, ◌+◌, ◌-◌, ◌*◌, ◌/◌, ◌^◌, ◌%◌, ◌≤◌, ◌<◌, ◌==◌, Bool, true, false, not, cond, List, [], ◌∷◌, map, length, take, drop, get_or, replicate, bit_and, refl, sym, ap, ap₂, ◌∙◌, arith, inl, inr, w8, Fits}
+use Rattle.std.proofs.Common.{◌≡◌, ◌≢◌, ℕ, zero, suc, ◌+◌, ◌-◌, ◌*◌, ◌/◌, ◌^◌, ◌%◌, ◌≤◌, ◌<◌, ◌==◌, Bool, true, false, not, cond, List, [], ◌∷◌, map, length, take, drop, get_or, replicate, bit_and, refl, ap, ap₂, ◌∙◌, arith, inl, inr, w8, Fits}
 use Rattle.std.specs.List.{prefix_len}
 use Rattle.std.specs.Simd.Lanes.{mask_l}
 use Rattle.std.proofs.lemmas.Bool.{agree_below, agree_below_at, cases_Bool}
@@ -9,6 +9,7 @@ use Rattle.std.proofs.lemmas.Simd.{Each1-all, Each1-zip2, Each2-splat, SwzOk, Sw
 use lib.Count.{count_trailing_zeros}
 use lib.Lanes.{top, zip2, Each1}
 use mir.Val.{zeroes}
+use Rattle.dnw_zone_data.proofs.Lanes.{none_stops, pass, run, Passed}
 use Rattle.dnw_zone_record.specs.declared.scan.Place.{Place}
 use Rattle.dnw_zone_record.specs.Lines.{is_kept, kept_len}
 use Rattle.dnw_zone_record.specs.Inside.Stops.{is_listed, is_stop}
@@ -71,17 +72,6 @@ first_stop place (suc k) (c ∷ cs) some = elim (cases_Bool (is_kept place c)) [
   | inr is ↦ rw is (omega arith, omega arith)
 ]
 
-no_stop : (place : Place) (k : ℕ) (xs : List ℕ) → k ≤ length xs → mask_l (map (is_stop place) (take k xs)) ≡ 0
-    → kept_len place xs ≡ k + kept_len place (drop k xs)
-no_stop place zero xs size none = omega arith
-no_stop place (suc k) [] size none = absurd (omega (arith, size))
-no_stop place (suc k) (c ∷ cs) size none = elim (cases_Bool (is_kept place c)) [
-  | inl is ↦
-      let others : 0 + 2 * mask_l (map (is_stop place) (take k cs)) ≡ 0 = rw is at none in
-      rw is (omega (arith, no_stop place k cs (omega (arith, size)) (omega (arith, others))))
-  | inr is ↦ absurd (let one : 1 + 2 * mask_l (map (is_stop place) (take k cs)) ≡ 0 = rw is at none in omega (arith, one))
-]
-
 -- the lowest bit of a mask stands for the first
 pub stop_at : (place : Place) (xs : List ℕ) (mask : ℕ) → 16 ≤ length xs → mask ≡ mask_l (map (is_stop place) (take 16 xs)) → mask ≢ 0
     → (count_trailing_zeros 64 mask ≡ kept_len place xs) × (kept_len place xs < length xs)
@@ -90,12 +80,8 @@ stop_at place xs mask size is some =
     let (first, within) = first_stop place 16 xs (omega (arith, is, some)) in
     (ap (count_trailing_zeros 64) is ∙ trailing_mask_l (is_stop place) 64 (take 16 xs) (omega (arith, few)) (omega (arith, is, some)) ∙ first, within)
 
--- what is left of a text after octets that were kept
-abbrev pub Passed : Place → List ℕ → List ℕ → Type 0
-Passed place all left = (length left ≤ length all) × ((length all - length left) + kept_len place left ≡ kept_len place all)
-
 pub stopped : (place : Place) (all left : List ℕ) (mask : ℕ) → 16 ≤ length left → mask ≡ mask_l (map (is_stop place) (take 16 left)) → mask ≢ 0
-    → Passed place all left
+    → Passed (kept_len place) all left
     → kept_len place all + length (take (length left - count_trailing_zeros 64 mask) (drop (count_trailing_zeros 64 mask) left)) ≡ length all
 stopped place all left mask size is some (within, so) =
     let n = count_trailing_zeros 64 mask in
@@ -103,9 +89,13 @@ stopped place all left mask size is some (within, so) =
     let rest : take (length left - n) (drop n left) ≡ drop n left = take_all (length left - n) (drop n left) (omega (arith, length-drop n left)) in
     rw rest (omega (arith, length-drop n left, within, so, first, below))
 
+kept_more : (place : Place) (c : ℕ) (cs : List ℕ) → is_stop place c ≡ false → kept_len place (c ∷ cs) ≡ 1 + kept_len place cs
+kept_more place c cs is = elim (cases_Bool (is_kept place c)) [
+  | inl kept ↦ rw kept (omega arith)
+  | inr none ↦ absurd (let one : true ≡ false = rw none at is in cc)
+]
+
 pub passed : (place : Place) (all left : List ℕ) (mask : ℕ) → 16 ≤ length left → mask ≡ mask_l (map (is_stop place) (take 16 left)) → mask ≡ 0
-    → Passed place all left → Passed place all (take (length left - 16) (drop 16 left))
-passed place all left mask size is none (within, so) =
-    let rest : take (length left - 16) (drop 16 left) ≡ drop 16 left = take_all (length left - 16) (drop 16 left) (omega (arith, length-drop 16 left)) in
-    let more = no_stop place 16 left size (sym is ∙ none) in
-    rw rest (omega (arith, length-drop 16 left, within), omega (arith, length-drop 16 left, size, within, more, so))
+    → Passed (kept_len place) all left → Passed (kept_len place) all (take (length left - 16) (drop 16 left))
+passed place all left mask size is none so =
+    pass (kept_len place) 16 all left size (run (is_stop place) (kept_len place) (kept_more place) 16 16 left (none_stops (is_stop place) 16 left mask size is none)) so
