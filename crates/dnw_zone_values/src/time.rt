@@ -1,5 +1,5 @@
 //! Times of signatures (RFC 4034, section 3.2): seconds since 1970-01-01 00:00:00 UTC, as a 32-bit number.
-ghost use Rattle.std.specs.Prelude.{◌≡◌, ◌≤◌, ◌<◌, ◌+◌, ◌*◌, ◌++◌, ◌/◌, ◌%◌, ◌∷◌, ℕ, [], true, false, length, MatchOption};
+ghost use Rattle.std.specs.Prelude.{◌≡◌, ◌≤◌, ◌<◌, ◌+◌, ◌*◌, ◌++◌, ◌/◌, ◌%◌, ◌∷◌, ℕ, [], true, false, length, IfSome, MatchOption};
 ghost use Rattle.std.specs.List.{AllPass};
 ghost use Rattle.std.specs.Char.{is_ascii_digit};
 ghost use Rattle.arrayvec.specs.ArrayString.{array_string_len};
@@ -62,10 +62,7 @@ pub fn read_time(text: &[u8]) -> Option<u32>
     ensures { MatchOption result ((seconds : ℕ) → ¬ (IsTimeText text.now seconds)) (IsTimeText text.now) }
 {
     if text.len() == DATE_LEN {
-        return match date_seconds(text) {
-            Some(seconds) => Some(seconds),
-            None => None,
-        };
+        return date_seconds(text);
     }
     let seconds = number_up_to(text, 4294967295)?;
     Some(seconds as u32)
@@ -74,17 +71,16 @@ pub fn read_time(text: &[u8]) -> Option<u32>
 /// Returns the seconds of a date with a time of day, if they are less than 2^32.
 fn date_seconds(text: &[u8]) -> Option<u32>
     requires { length text.now ≡ 14 }
-    ensures { MatchOption result ((seconds : ℕ) → seconds ≤ max_u32 → ¬ (IsDateText text.now seconds)) (IsDateText text.now) }
+    ensures is { MatchOption result ((seconds : ℕ) → seconds ≤ max_u32 → ¬ (IsDateText text.now seconds)) (IsDateText text.now) }
+    ensures few { IfSome result (λ seconds. seconds ≤ max_u32) }
 {
     if !is_digits(text) {
         return None;
     }
     let year = 100 * u16::from(two_at(text, 0)) + u16::from(two_at(text, 2));
     let (month, day) = (two_at(text, 4), two_at(text, 6));
-    match day_number(year, month, day) {
-        Some(days) => moment_seconds(days, two_at(text, 8), two_at(text, 10), two_at(text, 12)),
-        None => None,
-    }
+    let days = day_number(year, month, day)?;
+    moment_seconds(days, two_at(text, 8), two_at(text, 10), two_at(text, 12))
 }
 
 /// Returns the seconds to a time of day on the day with this number, if there is such a time and they are less than 2^32.
