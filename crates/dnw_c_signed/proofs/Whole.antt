@@ -1,5 +1,5 @@
 -- A name that takes as many octets as its wire form follows no pointer.
-use Rattle.std.proofs.Common.{◌≡◌, ℕ, ◌+◌, Option, List, refl, sym, ap, ◌∙◌, subst, arith}
+use Rattle.std.proofs.Common.{◌≡◌, ℕ, ◌+◌, Option, List, refl, sym, ap, subst, arith}
 use Rattle.dnw_base.specs.Names.{encoded_size}
 use Rattle.dnw_name_read.proofs.Counts.{octets_label}
 use Rattle.dnw_name_read.specs.Reading.{NameAt, Reads, label, pointer, zero_octet}

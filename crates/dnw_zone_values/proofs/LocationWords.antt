@@ -1,5 +1,5 @@
 -- Words of locations, as slices have them.
-use Rattle.std.proofs.Common.{◌≡◌, ◌≤◌, ◌<◌, ℕ, Bool, true, false, List, [], ◌∷◌, ◌++◌, length, map, codes, refl, sym, ap, ◌∙◌, subst, arith, append_assoc, append-nil, Bor, get_or}
+use Rattle.std.proofs.Common.{◌≡◌, ◌≤◌, ◌<◌, ℕ, true, false, List, [], ◌∷◌, ◌++◌, length, map, codes, refl, sym, arith, append_assoc, append-nil, Bor, get_or}
 use Rattle.std.specs.Prelude.{Option, MatchOption}
 use Rattle.std.proofs.lemmas.List.Concat.{flat_map-append}
 use Rattle.dnw_zone_values.specs.declared.location.Axis.{Axis}

@@ -14,7 +14,6 @@ use Rattle.std.proofs.Math.Seq.{get_or-append_seam}
 use Rattle.dnw_zone_values.specs.declared.location.Axis.{Axis}
 use Rattle.dnw_zone_values.specs.declared.location.Axis.TheVariants.{Latitude, Longitude}
 use Rattle.dnw_zone_values.specs.declared.location.Location.{Location}
-use Rattle.dnw_zone_values.specs.Numbers.{IsNumberText}
 use Rattle.dnw_zone_values.specs.Locations.{after_point, angle_words, arc, before_point, degree, depth, hundredths_text, is_angle, is_letter, is_point, letter, max_degrees, max_size, minute, origin, positive_letter, negative_letter, precision, altitude_text, size_of, size_text, thousandths_text, without_unit, has_version, is_location, is_precision, location_at, location_wire, location_words, part_at, AreLocationWords, BeginWithAngle, IsAltitude, IsAngle, IsCentimetres, IsMetres, IsOnSide, IsScaled, IsSeconds, IsSizeText}
 use Rattle.std.specs.Int.{w32, from_be_bytes, to_be_bytes}
 use Rattle.std.proofs.lemmas.Nat.{be_bytes_4}

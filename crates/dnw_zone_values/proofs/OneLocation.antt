@@ -1,11 +1,11 @@
 -- Words are one location at most.
-use Rattle.std.proofs.Common.{◌≡◌, ◌≤◌, ℕ, ◌+◌, ◌-◌, ◌*◌, true, false, List, [], ◌∷◌, refl, sym, ap, ◌∙◌, subst, arith, inl, inr, slice_index}
+use Rattle.std.proofs.Common.{◌≡◌, ◌≤◌, ℕ, ◌+◌, ◌*◌, true, false, List, [], ◌∷◌, sym, ap, ◌∙◌, subst, arith, inl, inr, slice_index}
 use Rattle.std.specs.Prelude.{Option, Some, None, MatchOption}
 use Rattle.dnw_zone_values.specs.declared.location.Axis.{Axis}
 use Rattle.dnw_zone_values.specs.declared.location.Axis.TheVariants.{Latitude, Longitude}
 use Rattle.dnw_zone_values.specs.declared.location.Location.{Location}
 use Rattle.dnw_zone_values.specs.Numbers.{IsNumberText}
-use Rattle.dnw_zone_values.specs.Locations.{positive_letter, negative_letter, max_degrees, degree, minute, is_letter, with_minutes, with_sizes, precision, AreLocationWords, AreSizes, BeginWithAngle, IsAltitude, IsAngle, IsAngleFirst, IsMetres, IsOnSide, IsSeconds, IsSizeText}
+use Rattle.dnw_zone_values.specs.Locations.{positive_letter, negative_letter, max_degrees, degree, minute, with_minutes, with_sizes, precision, AreLocationWords, AreSizes, BeginWithAngle, IsAltitude, IsAngle, IsAngleFirst, IsMetres, IsOnSide, IsSeconds, IsSizeText}
 
 -- ---- angles
 

@@ -1,5 +1,5 @@
 -- One field after another is put, up to the first that is none, or to the end.
-use Rattle.std.proofs.Common.{sym, ◌∙◌, refl}
+use Rattle.std.proofs.Common.{refl}
 use Rattle.std.proofs.lemmas.Result.{err_from_is_err_and}
 use Rattle.dnw_record.proofs.Copying.{left-over, stops}
 use Rattle.dnw_signed.proofs.Putting.{all_put, begins_putting, puts_on}

@@ -1,4 +1,4 @@
-use Rattle.std.proofs.Common.{◌≡◌, ◌++◌, ◌∙◌, true, ℕ, List, ap, sym, refl}
+use Rattle.std.proofs.Common.{◌≡◌, ◌++◌, ◌∙◌, true, ap, sym, refl}
 use Rattle.std.specs.Prelude.{string_bytes}
 use Rattle.dnw_zone_values.specs.declared.location.Axis.TheVariants.{Latitude, Longitude}
 use Rattle.dnw_zone_values.specs.declared.location.Location.{Location}

@@ -1,4 +1,4 @@
-use Rattle.dnw_zone_values.proofs.LocationSteps.{whole_too_great, part_too_great}
+use Rattle.dnw_zone_values.proofs.LocationSteps.{part_too_great}
 use Rattle.dnw_zone_values.proofs.location.scaled.Goals as goal
 
 pub returns-in_default-digits_of : goal.returns-in_default-digits_of

@@ -1,5 +1,5 @@
 -- What is printed is parsed.
-use Rattle.std.proofs.Common.{◌≡◌, ℕ, List, length, ap, ◌∙◌, subst, arith}
+use Rattle.std.proofs.Common.{ℕ, List, length, ap, ◌∙◌, subst, arith}
 use Rattle.std.specs.Prelude.{None, string_bytes}
 use Rattle.dns_names_wire.specs.Words.{DNSClass, Decoder, FailsText, RecordType, RecordValue, class_code, fields_of, number_forms, type_code}
 use Rattle.uses.proofs.TextsBack.{why}

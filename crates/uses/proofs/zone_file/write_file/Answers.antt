@@ -1,4 +1,4 @@
-use Rattle.std.proofs.Common.{◌≡◌, ◌≤◌, List, ℕ, [], ◌∷◌, sym, ap, ◌∙◌, subst, arith}
+use Rattle.std.proofs.Common.{◌≤◌, [], subst, arith}
 use Rattle.dns_names_wire.specs.Words.{AppendsTtl, IsFirst, max_u32}
 use Rattle.uses.proofs.zone_file.write_file.Goals as goal
 
