@@ -5,23 +5,16 @@ A check prints, right before a function's line, a note for each of its goals tha
     note: src/a.rt:27:1: it is not proved that .. (`returns`); the facts known there allow values at which this goal is false
     fn sums::add: no proof: ..; `search` did not prove `returns`
 
-An error in a file of proofs has its file, its line and its column, and further lines that are set in."""
+An error in a file of proofs has its file, its line and its column."""
 
 import re
 
-# How an edit is refused, the surest first, and what the check's note of a goal has. The last two have no such words.
-FALSE, GAVE_UP, OPEN = "a counterexample was found", "the search gave up", "a goal stays open"
-BY_ANSWER = "the tactic of its answer fails"
-REFUSALS = (FALSE, OPEN, GAVE_UP, BY_ANSWER)
+# How an edit is refused, the surest first, and what the check's note of a goal has. The second has no such words.
+FALSE, OPEN, GAVE_UP = "a counterexample was found", "a goal stays open", "the search gave up"
+REFUSALS = (FALSE, OPEN, GAVE_UP)
 HOW = {FALSE: "the facts known there allow values", GAVE_UP: "`search` gave up at one of its limits"}
-# What the error of a tactic has that had all that it names, and did not prove its goal.
-TACTIC_FAILED = re.compile(
-    r"`(?:omega|grind|search)`(?:: the goal does not follow|: no proof of| stopped at)"
-    r"|`cc`(?: met a bound of its own before the equations had joined|: the equations)"
-    r"|`(?:rw|simp)` has no last argument, so what it leaves must be a path whose two ends are equal"
-)
-# An error in a file of proofs, with the lines that are set in after it.
-ERROR = r"^(?:\./)?(proofs/\S+\.antt):(\d+):(\d+): error: (.*(?:\n  .*)*)"
+# An error in a file of proofs.
+ERROR = r"^(?:\./)?(proofs/\S+\.antt):(\d+):\d+: error: "
 # The status of a check that was asked for a function that it does not find.
 NO_SUCH_PATH = 2
 
@@ -42,9 +35,9 @@ class Findings:
             if function:
                 self.functions.append((function[1], function[2], dict(notes)))
                 notes = []
-        for file, line, column, why in re.findall(ERROR, said, re.M):
+        for file, line in re.findall(ERROR, said, re.M):
             path = "::".join([crate, *file[len("proofs/") :].replace("+", "").split("/")[:-1]])
-            self.errors.append((path, file, int(line), int(column), why))
+            self.errors.append((path, file, int(line)))
 
     def of(self, edit):
         """The status and the open goals of each function that has an edit's changes, or of all if it changes none that is known."""
@@ -67,18 +60,10 @@ class Findings:
     def stale_lines(self, edit):
         """The lines with errors in the proof files of an edit's functions, by file."""
         found = {}
-        for file, line, _, _ in self.errors_of(edit):
-            found.setdefault(file, set()).add(line)
+        for path, file, line in self.errors:
+            if any(it.is_at(path) for it in edit.tried()):
+                found.setdefault(file, set()).add(line)
         return found
-
-    def errors_of(self, edit):
-        return [found for path, *found in self.errors if any(it.is_at(path) for it in edit.tried())]
-
-    def fails_by_tactic(self, edit, texts):
-        """Whether all errors in an edit's answers are of tactics that prove a goal, or a part of it, as they stand there: not an argument
-        of a lemma, which only that answer asks for."""
-        found = self.errors_of(edit)
-        return bool(found) and all(TACTIC_FAILED.search(why) and is_for_goal(texts[file], line, column) for file, line, column, why in found)
 
     def last_lines(self, count):
         return "\n".join(f"    {line[:300]}" for line in self.said.rstrip("\n").split("\n")[-count:])
@@ -99,13 +84,6 @@ def only_in_trial(trial, control, answered):
     place is open in the control or has a hand-written answer."""
     known = {stem(goal) for goal in [*control, *answered]}
     return surest([how for goal, how in trial.items() if goal not in control and "-clause-" in goal and stem(goal) in known])
-
-
-def is_for_goal(text, line, column):
-    """Whether what stands at a place of an answer proves the goal, a clause of it or one of its cases: what is before it ends so."""
-    lines = text.split("\n")
-    before = "\n".join([*lines[: line - 1], lines[line - 1][: column - 1]])
-    return re.search(r"(?:=|\bin|↦|λ [^.()]*\.|\brw \S+ \(|\brw \([^()]*\) \()\s*$", before) is not None
 
 
 def without_stale_answers(texts, stale):

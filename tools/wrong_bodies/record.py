@@ -2,7 +2,8 @@
 
 A key is a sum over all that a refusal rests on: the edit; the code, specs and proofs of its crate; what the crates below show to
 them, without the functions that none of all this names; the specs and proofs there that these and the crate import, and what those
-import; what the crate's line in crates.txt says; the toolchain; and the version of this tool."""
+import; what the crate's line in crates.txt says; the toolchain's logic; and the files of this tool. Kits of one logic differ in their
+search alone: that what one refuses is refused by the next too is seen by the edits that each run tries."""
 
 import functools
 import hashlib
@@ -16,13 +17,15 @@ from wrong_bodies.edits import texts_of
 from wrong_bodies.source import Shown
 
 FILE = ROOT / ".ci" / "refused"
-# Is raised if edits are judged in another way, so that what was recorded counts for nothing.
-VERSION = 1
+# What judges edits. If one of these files changes, what was recorded counts for nothing.
+JUDGES = [ROOT / "tools" / it for it in ("rattle", *(f"wrong_bodies/{name}.py" for name in ("edits", "findings", "source", "sources", "trial")))]
 HEAD = """\
 # The wrong bodies that the prover refused, as tools/wrong-bodies --record writes them: name, key, and how each was refused.
 """
-# Of the edits that are recorded, a run tries one in so many.
+# Of the edits that are recorded, a run tries those of one crate in so many: what a crate stands on is loaded once for all of them.
 ONE_IN = 10
+# Of all edits, no more than one in so many may be without a record.
+MOST_STALE = 20
 
 
 def sum_of(*texts):
@@ -33,8 +36,10 @@ def sum_of(*texts):
 
 
 @functools.lru_cache(maxsize=None)
-def toolchain():
-    return subprocess.run(["rt", "version"], capture_output=True, check=True, text=True).stdout
+def judged_by():
+    """The toolchain's logic, and what judges edits."""
+    said = subprocess.run(["rt", "version"], capture_output=True, check=True, text=True).stdout
+    return sum_of(re.search(r"\blogic \w+", said)[0], *(file.read_text(encoding="utf-8") for file in JUDGES))
 
 
 @functools.lru_cache(maxsize=None)
@@ -82,7 +87,7 @@ def below_of(crate, words):
 def rests_on(crate, words=frozenset()):
     """The sum of all that the refusals of a crate's edits rest on, but the edits. `words` are those that only the edit has."""
     parts = [part for texts in (texts_of(crate), below_of(crate, words)) for pair in sorted(texts.items()) for part in pair]
-    return sum_of(str(VERSION), toolchain(), crate, *sorted(listed()[crate]), *parts)
+    return sum_of(judged_by(), crate, *sorted(listed()[crate]), *parts)
 
 
 @functools.lru_cache(maxsize=None)
@@ -108,8 +113,8 @@ class Record:
         return self.rows.get(edit.label, ("",))[0] == key_of(edit)
 
     def is_sampled(self, edit, commit):
-        """Whether this run tries an edit that is recorded: one in ten does, another one for each commit."""
-        return int(sum_of(commit, edit.label), 16) % ONE_IN == 0
+        """Whether this run tries an edit that is recorded: those of one crate in ten, of other crates for each commit."""
+        return int(sum_of(commit, edit.crate), 16) % ONE_IN == 0
 
     def note(self, verdicts):
         """Notes how edits were refused, or that they were not."""

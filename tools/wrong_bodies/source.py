@@ -181,14 +181,15 @@ class Shown:
     def to(self, words):
         """What it shows to texts that have these words. Of imports it has those that are named in what is left."""
         kept = "\n".join([self.rest, *(text for name, text in self.functions if name in words)])
-        return "".join(f"use {path} {name}\n" for path, name in self.imports if is_named(name, kept)) + kept
+        named = set(re.findall(r"\w+", kept))
+        return "".join(f"use {path} {name}\n" for path, name in self.imports if is_named(name, named)) + kept
 
 
 def without_comments(lines):
     return "\n".join(line.rstrip() for line in lines if line.strip() and not re.match(r" *//", line))
 
 
-def is_named(name, text):
-    """Whether a text has an imported name, or the one that it is given there. Operators are taken to be there."""
+def is_named(name, words):
+    """Whether an imported name, or the one that it is given there, is one of these words. Operators are taken to be there."""
     word = re.split(r"::|\.| as ", name.strip())[-1].strip()
-    return not re.fullmatch(r"\w+", word) or re.search(rf"\b{word}\b", text) is not None
+    return not re.fullmatch(r"\w+", word) or word in words

@@ -12,7 +12,8 @@ import time
 from crates import ROOT, below, listed
 
 from wrong_bodies.edits import SOURCES, Crate, edits_of
-from wrong_bodies.findings import BY_ANSWER, FALSE, GAVE_UP, NO_SUCH_PATH, OPEN, REFUSALS, Findings, only_in_trial, surest, without_stale_answers
+from wrong_bodies.findings import NO_SUCH_PATH, REFUSALS, Findings, only_in_trial, surest, without_stale_answers
+from wrong_bodies.sources import differences, has_library
 
 # What a check leaves of a crate: what the next one starts from, and the library as it is built.
 KEPT = ("out/incremental", "out/rlib")
@@ -24,7 +25,7 @@ MOST_CHECKS = 4
 LIMIT = 7200
 # What is said of an edit that is not refused.
 PROVED = "NOT REFUSED: its function is still proved"
-NOT_JUDGED = "NOT JUDGED: a hand-written answer is stale, and without it the right body is not proved either"
+NOT_JUDGED = "NOT JUDGED: the right body is not proved either, in its place and without the answers that are stale"
 BROKEN = "BROKEN: no goal of its function is open"
 
 
@@ -51,6 +52,8 @@ class Room:
     def __init__(self, folder, crate, libraries):
         copy_crate(crate.name, pathlib.Path(folder), (*SOURCES, "out/incremental"))
         self.crate, self.here, self.written = crate, pathlib.Path(folder, "crates", crate.name), {}
+        # Whether a library of the crate shows that it is proved as it is.
+        self.is_proved = has_library(libraries, crate.name)
         self.words = [ROOT / "tools" / "rattle", "check", crate.name, libraries]
         self.words += ["--allow-holes", "--jobs", "1", "--incremental", "out/incremental"]
 
@@ -79,7 +82,7 @@ class Room:
     def judge(self, edits):
         """Tries edits, and returns how each one is refused or why it is not, and what the last check found. An edit that has none of
         these is to be tried again, alone."""
-        verdicts, cut, left, by_answer, opened = {}, {edit: {} for edit in edits}, edits, set(), {}
+        verdicts, cut, left, opened = {}, {edit: {} for edit in edits}, edits, {}
         for _ in range(MOST_CHECKS):
             found, texts = self.check(left, cut)
             if not found.is_whole:
@@ -87,11 +90,10 @@ class Room:
                 verdicts.update({edit: NOT_JUDGED for edit in left if cut[edit] and len(edits) == 1})
                 break
             stale, files = {edit: found.stale_lines(edit) for edit in left}, {**self.crate.texts, **texts}
-            by_answer |= {edit for edit in left if not cut[edit] and found.fails_by_tactic(edit, files)}
             for edit in (it for it in left if not stale[it]):
                 goals = found.open_goals(edit)
                 verdicts[edit] = surest(goals.values()) or (PROVED if found.is_proved(edit) else None)
-                if goals and cut[edit] and verdicts[edit] != FALSE:
+                if goals and (cut[edit] or edit.number or not self.is_proved):
                     opened[edit] = goals
             left = [edit for edit in left if stale[edit] and self.may_cut(stale[edit]) and not edit.proofs]
             for edit in left:
@@ -100,7 +102,6 @@ class Room:
             if not left:
                 break
         verdicts.update(self.controlled(opened, cut))
-        verdicts.update({edit: BY_ANSWER for edit in by_answer if verdicts.get(edit) == NOT_JUDGED})
         return verdicts, found
 
     def may_cut(self, stale):
@@ -108,8 +109,9 @@ class Room:
         return all(file.endswith("/Answers.antt") for file in stale)
 
     def controlled(self, opened, cut):
-        """The verdicts on edits of which answers were cut away, with their open goals: they are refused only if the right body is proved
-        without these answers, or if a clause is open that is proved there."""
+        """The verdicts on edits with open goals, of which answers were cut away, or that were made in twins: they are refused only if the
+        right body is proved in that place without these answers, or if a clause is open that is proved there. The proof of the crate
+        itself is the control of the other edits."""
         if not opened:
             return {}
         found, _ = self.check(list(opened), cut, is_control=True)
@@ -216,7 +218,7 @@ class Trial:
     def start(self):
         """Starts with the edits, if all is proved, and else with the crates that stand on nothing."""
         for name in self.names if self.over else []:
-            self.try_edits(Crate(name, libraries=self.over))
+            self.try_over(name)
         for name in [it for it, waits in self.left.items() if not waits and not self.over]:
             self.schedule.put(0, self.prove, name)
 
@@ -259,9 +261,19 @@ class Trial:
         for name in map(str.strip, lines):
             if name in self.names and name not in named:
                 named.add(name)
-                self.try_edits(Crate(name, libraries=self.over))
+                self.try_over(name)
         for edit in (it for name in self.names if name not in named for it in edits_of(name)):
             self.report.fail(edit, "NOT TRIED, since its crate is not proved")
+
+    def try_over(self, name):
+        """Tries the edits of a crate over the libraries of another folder, if these are of this repository's sources."""
+        others = [it for crate in sorted({name} | below(name, self.crates)) for it in differences(crate, self.over)]
+        if not others:
+            self.try_edits(Crate(name, libraries=self.over))
+            return
+        self.report.say(f"{name}: {self.over} has other sources, or a library of other sources: {', '.join(others[:SHOWN])}")
+        for edit in edits_of(name):
+            self.report.fail(edit, "NOT TRIED, since it would be tried over other sources")
 
     def try_edits(self, crate):
         for edit, why in crate.broken.items():
