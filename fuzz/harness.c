@@ -66,12 +66,18 @@ const uint8_t *put_at_start(struct room *room, const uint8_t *bytes, size_t len)
     return memcpy(room->first, bytes, len);
 }
 
-uint8_t *clear(struct room *room, size_t size)
+uint8_t *lay(struct room *room, bool is_at_end, uint8_t filler, size_t size, size_t beside)
 {
     open_room(room, size);
-    uint8_t *buffer = room->first + room->size - size;
-    memset(buffer - FILLED, 0xAA, size + FILLED);
-    return buffer;
+    CHECK(size + beside <= room->size);
+    uint8_t *first = is_at_end ? room->first + room->size - size - beside : room->first;
+    memset(first, filler, size + beside);
+    return is_at_end ? first + beside : first;
+}
+
+uint8_t *clear(struct room *room, size_t size)
+{
+    return lay(room, true, 0xAA, size, FILLED);
 }
 
 static bool is_filled(const uint8_t *bytes, size_t len)

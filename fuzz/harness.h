@@ -31,6 +31,9 @@ const uint8_t *put_at_start(struct room *room, const uint8_t *bytes, size_t len)
 /* Returns a buffer at the end of a room, filled with 0xAA, as are some bytes before it. */
 uint8_t *clear(struct room *room, size_t size);
 
+/* Returns a buffer at the end of a room, or at its start, that is filled, as are so many bytes on its other side. */
+uint8_t *lay(struct room *room, bool is_at_end, uint8_t filler, size_t size, size_t beside);
+
 /* The buffer has these bytes, and is unchanged after and before them. */
 bool holds(const uint8_t *buffer, size_t size, const void *bytes, size_t len);
 bool untouched(const uint8_t *buffer, size_t size);
@@ -41,8 +44,7 @@ void refuse(size_t number);
 /* Returns whether an allocation was refused since, and stops that. */
 bool was_refused(void);
 
-/* The library has no counters of the fuzzer's. So an input is kept too for which a number is seen that no input before gave: one of what
-   a call returned. */
+/* The fuzzer keeps an input too for which a number is seen that no input before gave: one of what a call returned. */
 void saw(size_t number);
 
 /* A part of an input. */

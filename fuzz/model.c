@@ -497,3 +497,35 @@ uint32_t model_put_data(const uint8_t *message, const struct dnw_record *record,
         *at += len;
     }
 }
+
+struct model_purpose model_purpose(uint16_t flags)
+{
+    return (struct model_purpose){.flags = flags, .asked = UINT32_MAX};
+}
+
+void model_take(struct model_purpose *purpose, int section, const struct model_name *owner, uint16_t type)
+{
+    if (section == 1)
+        purpose->has_data |= purpose->asked == type || purpose->asked == DNW_TYPE_ANY;
+    if (section == 2 && !purpose->has_cut && type == DNW_TYPE_NS) {
+        purpose->has_cut = true;
+        purpose->cut = *owner;
+    }
+}
+
+bool model_is_uncut(const struct model_purpose *purpose)
+{
+    return (purpose->flags & 0x8000) == 0 || purpose->asked == DNW_TYPE_AXFR || purpose->asked == DNW_TYPE_IXFR;
+}
+
+bool model_is_required(const struct model_purpose *purpose, int section, const struct model_name *owner, uint16_t type,
+                       const uint8_t *data, size_t data_len)
+{
+    if ((purpose->flags & 0x7800) != 0 || section == 1)
+        return true;
+    if (section == 3)
+        return !purpose->has_data && (type == DNW_TYPE_A || type == DNW_TYPE_AAAA) && purpose->has_cut &&
+               model_in_zone(owner, &purpose->cut);
+    bool signs_ns = type == DNW_TYPE_RRSIG && data_len >= 2 && model_number(data, 2) == DNW_TYPE_NS;
+    return !purpose->has_data || (type != DNW_TYPE_NS && !signs_ns);
+}

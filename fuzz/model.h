@@ -100,6 +100,27 @@ bool model_is_sorted(const uint8_t *list, size_t len, const size_t *order, size_
 bool model_in_zone(const struct model_name *name, const struct model_name *zone);
 void model_lower(struct model_name *name);
 
+/* What of a message decides which of its records are required: its flags, the type that its first question asks for (UINT32_MAX if it
+   has none), whether an answer has that type, and the owner of the first NS of the Authority section. */
+struct model_purpose {
+    uint16_t flags;
+    uint32_t asked;
+    bool has_data, has_cut;
+    struct model_name cut;
+};
+
+struct model_purpose model_purpose(uint16_t flags);
+
+/* Takes one more record of a section: 1 for the answers, 2 for the authorities, 3 for the others. */
+void model_take(struct model_purpose *purpose, int section, const struct model_name *owner, uint16_t type);
+
+/* Nothing of the message is ever left out. */
+bool model_is_uncut(const struct model_purpose *purpose);
+
+/* A response has to have the record (RFC 2181, section 9; RFC 2308; RFC 4035, section 3.1; RFC 9471). */
+bool model_is_required(const struct model_purpose *purpose, int section, const struct model_name *owner, uint16_t type,
+                       const uint8_t *data, size_t data_len);
+
 /* Puts the data of a record at `*at` of a buffer, with names whole, and lowered or not, and moves `*at` past them. Returns why they
    are none of their type. */
 uint32_t model_put_data(const uint8_t *message, const struct dnw_record *record, bool lowers, uint8_t *out, size_t *at);

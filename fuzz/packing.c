@@ -1,13 +1,14 @@
 /* Writes whole messages again, in at most as many octets as the first two of an input say, and compares the copy, octet for octet, with
    one that is written item by item: of each section the sets, of which one that has no room is left out with all after it; and then the
-   records that the message has to have. What the calls for items write is compared in writer.c. */
+   records that come last. TC is set if a record is left out that is required, and nothing is left out of a message that is never cut.
+   What the calls for items write is compared in writer.c. */
 #include "harness.h"
 
 static struct room input, output;
 static uint8_t wanted[65535];
 static uint8_t whole_data[131072];
 
-/* A record that the message has to have: OPT, TSIG, or SIG(0), which is a SIG that covers the type 0 (RFC 2931, section 3). */
+/* A record that comes last and is never left out: OPT, TSIG, or SIG(0), which is a SIG that covers the type 0 (RFC 2931, section 3). */
 static bool is_held(const uint8_t *message, const struct dnw_record *record)
 {
     if (record->record_type == DNW_TYPE_SIG)
@@ -67,6 +68,41 @@ static uint32_t add_sets(const uint8_t *message, size_t len, int section, size_t
     return DNW_DONE;
 }
 
+static struct model_purpose purpose_of(const uint8_t *message, size_t len, const struct dnw_message *read)
+{
+    struct model_purpose purpose = model_purpose((uint16_t)model_number(message + 2, 2));
+    struct model_name name;
+    struct dnw_record record;
+    if (read->question_count > 0) {
+        CHECK(model_read(message, len, DNW_HEADER_SIZE, &name) == DNW_DONE);
+        purpose.asked = model_number(message + name.end, 2);
+    }
+    size_t at = read->answers;
+    for (size_t i = 0; i < (size_t)read->answer_count + read->authority_count; i++, at = record.end) {
+        CHECK(model_record(message, len, at, &name, &record) == DNW_DONE);
+        model_take(&purpose, i < read->answer_count ? 1 : 2, &name, record.record_type);
+    }
+    return purpose;
+}
+
+/* A record of a section is required that the copy does not have. */
+static bool misses(const uint8_t *message, size_t len, int section, size_t at, const struct model_purpose *purpose)
+{
+    struct model_name owner;
+    struct dnw_record record;
+    uint32_t copied = (uint32_t)model_number(wanted + 4 + 2 * section, 2);
+    for (uint32_t left = (uint32_t)model_number(message + 4 + 2 * section, 2); left > 0; left--, at = record.end) {
+        CHECK(model_record(message, len, at, &owner, &record) == DNW_DONE);
+        if (section == 3 && is_held(message, &record))
+            continue;
+        if (copied > 0)
+            copied--;
+        else if (model_is_required(purpose, section, &owner, record.record_type, message + record.data_offset, record.data_len))
+            return true;
+    }
+    return false;
+}
+
 static uint32_t write_copy(const uint8_t *message, size_t len, size_t most, const struct dnw_message *read, struct dnw_packed *copy)
 {
     static struct dnw_writer w;
@@ -96,6 +132,14 @@ static uint32_t write_copy(const uint8_t *message, size_t len, size_t most, cons
         if (answer != DNW_DONE)
             return answer;
     }
+    bool is_cut = false;
+    if (!all[1] || !all[2] || !all[3]) {
+        struct model_purpose purpose = purpose_of(message, len, read);
+        if (model_is_uncut(&purpose))
+            return DNW_MESSAGE_TOO_LONG;
+        for (int section = 1; section < 4; section++)
+            is_cut |= misses(message, len, section, starts[section], &purpose);
+    }
     CHECK(dnw_writer_release(SIZE_MAX, &w) == DNW_DONE);
     at = read->additionals;
     for (size_t i = 0; i < read->additional_count; i++, at = record.end) {
@@ -104,8 +148,7 @@ static uint32_t write_copy(const uint8_t *message, size_t len, size_t most, cons
         if (answer != DNW_DONE)
             return answer;
     }
-    bool goes_with_answers = (message[2] & 0xF8) == 0x80 && read->answer_count > 0;
-    if (!all[1] || (!goes_with_answers && !(all[2] && all[3])))
+    if (is_cut)
         wanted[2] |= 2;
     *copy = (struct dnw_packed){w.len, wanted[2] & 2};
     return DNW_DONE;

@@ -5,12 +5,15 @@ They are the messages, texts, wire forms, names, bitmaps and times of the lists 
 servers there, each once.
 """
 
+import collections
 import hashlib
 import itertools
 import pathlib
 import re
 import struct
 import sys
+
+import call_seeds
 
 DIFF = pathlib.Path(__file__).resolve().parent.parent / "diff"
 
@@ -237,7 +240,11 @@ def zones():
 
 def main():
     folder = pathlib.Path(sys.argv[1])
+    others = collections.defaultdict(set)
     for harness, octets_of_it in itertools.chain(*map(inputs, requests()), replies(), responses(), limits(), zones()):
+        others[harness].add(octets_of_it)
+    others["calls"] = set(call_seeds.calls(others))
+    for harness, octets_of_it in ((harness, it) for harness, found in others.items() for it in found):
         place = folder / harness
         place.mkdir(parents=True, exist_ok=True)
         (place / hashlib.sha1(octets_of_it).hexdigest()).write_bytes(octets_of_it)

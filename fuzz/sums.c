@@ -293,7 +293,8 @@ static size_t collect(const uint8_t *records, size_t len, const struct model_nam
         bool is_zonemd = next->type == DNW_TYPE_ZONEMD;
         /* A record of the class ANY may have no data. */
         bool is_its_rrsig = next->type == DNW_TYPE_RRSIG && next->len >= 2 && model_number(octets + next->at, 2) == DNW_TYPE_ZONEMD;
-        count += !(model_compare(&next->owner, apex) == 0 && (is_zonemd || is_its_rrsig));
+        bool is_own = model_compare(&next->owner, apex) == 0 && (is_zonemd || is_its_rrsig);
+        count += model_in_zone(&next->owner, apex) && !is_own;
     }
     return count;
 }

@@ -294,7 +294,7 @@ static void begin(struct part *rest)
     was = writer;
     memcpy(before, buffer, buffer_size);
     uint32_t answer = dnw_writer_begin(buffer, buffer_size, max_size, id, flags, &writer);
-    CHECK(answer == (buffer_size < 12 ? DNW_NO_ROOM : DNW_DONE));
+    CHECK(answer == (buffer_size < 12 ? DNW_NO_ROOM : max_size < 12 ? DNW_MESSAGE_TOO_LONG : DNW_DONE));
     if (answer != DNW_DONE)
         return expect_kept(answer, false);
     CHECK(writer.len == 12 && writer.max_size == max_size && writer.reserved == 0 && writer.rank == 0);
@@ -402,7 +402,7 @@ struct listed {
 static bool read_listed(const uint8_t *list, size_t len, size_t at, struct listed *item)
 {
     item->octet = list[at];
-    if (item->octet > 3 && item->octet != 67 && (item->octet < 129 || item->octet > 131))
+    if (item->octet > 3 && item->octet != 67 && (item->octet < 33 || item->octet > 35) && (item->octet < 129 || item->octet > 131))
         return false;
     if (model_read(list, len, at + 1, &item->name) != DNW_DONE)
         return false;
@@ -429,25 +429,50 @@ static uint32_t add_listed(const uint8_t *list, const struct listed *item, uint3
                              item->data.bytes, item->data.len, w);
 }
 
-/* Writes a list by the calls for its items, and puts whether something required is missing. */
-static uint32_t model_list(const uint8_t *list, size_t len, size_t max_size, uint8_t *message, size_t size, struct dnw_writer *w,
-                           bool *missing)
+/* The type or the class of an item. */
+static uint16_t code_of(const uint8_t *list, const struct listed *item, size_t at)
 {
+    return (uint16_t)model_number(list + item->fields + at, 2);
+}
+
+/* Records with the same octet, owner but for case, type and class. */
+static bool are_of_one_set(const uint8_t *list, const struct listed *item, const struct listed *other)
+{
+    return item->octet == other->octet && code_of(list, item, 0) == code_of(list, other, 0) &&
+           code_of(list, item, 2) == code_of(list, other, 2) && model_compare(&item->name, &other->name) == 0;
+}
+
+/* A record that is left out has to be there, by the word of the list, or else by what the message is for. */
+static bool is_missed(const uint8_t *list, const struct listed *item, const struct model_purpose *purpose)
+{
+    if (item->octet >= 32)
+        return item->octet < 128;
+    return model_is_required(purpose, item->octet, &item->name, code_of(list, item, 0), item->data.bytes, item->data.len);
+}
+
+/* Writes a list by the calls for its items, and puts whether something required is missing. */
+static uint32_t model_list(const uint8_t *list, size_t len, size_t max_size, uint16_t flags, uint8_t *message, size_t size,
+                           struct dnw_writer *w, bool *missing)
+{
+    struct model_purpose purpose = model_purpose(flags);
     struct listed item, next;
     size_t held = 0;
     unsigned place = 0;
     for (size_t at = 0; at < len; at = item.end) {
-        unsigned own = list[at] == 67 ? 4 : list[at] % 128;
+        unsigned own = list[at] == 67 ? 4 : list[at] % 4;
         if (own < place || !read_listed(list, len, at, &item))
             return DNW_BAD_ITEM;
         place = own;
         if (item.octet == 67)
             held += item.name.len + 10 + item.data.len;
+        else if (item.octet > 0)
+            model_take(&purpose, item.octet % 4, &item.name, code_of(list, &item, 0));
+        else if (purpose.asked == UINT32_MAX)
+            purpose.asked = code_of(list, &item, 0);
     }
-    if (dnw_writer_begin(message, size, max_size, 1, 2, w) != DNW_DONE)
-        return DNW_NO_ROOM;
-    if (max_size < 12)
-        return DNW_MESSAGE_TOO_LONG;
+    uint32_t begun = dnw_writer_begin(message, size, max_size, 1, flags, w);
+    if (begun != DNW_DONE)
+        return begun;
     dnw_writer_hold(held, w);
     unsigned closed = 0;
     for (size_t at = 0; at < len;) {
@@ -468,32 +493,32 @@ static uint32_t model_list(const uint8_t *list, size_t len, size_t max_size, uin
                 return answer;
             at = item.end;
         } else if (section == closed) {
-            *missing = *missing || item.octet < 128;
+            *missing = *missing || is_missed(list, &item, &purpose);
             at = item.end;
         } else {
-            size_t key = item.fields + 4 - at, end = w->len;
+            size_t end = w->len;
             uint16_t owner = w->owner;
             uint8_t rank = w->rank, counts[8];
             memcpy(counts, message + 4, 8);
-            size_t first = at;
-            next = item;
-            do {
+            for (next = item; are_of_one_set(list, &item, &next);) {
                 answer = add_listed(list, &next, section + 1, message, size, w);
-                if (answer == DNW_MESSAGE_TOO_LONG) {
+                if (answer == DNW_MESSAGE_TOO_LONG && !model_is_uncut(&purpose)) {
                     w->len = end;
                     w->owner = owner;
                     w->rank = rank;
                     memcpy(message + 4, counts, 8);
                     closed = section;
-                    *missing = *missing || item.octet < 128;
-                } else if (answer != DNW_DONE) {
-                    return answer;
+                    *missing = *missing || is_missed(list, &item, &purpose);
+                    at = item.end;
+                    break;
                 }
+                if (answer != DNW_DONE)
+                    return answer;
                 at = next.end;
-                if (answer != DNW_DONE || len - at < key || memcmp(list + at, list + first, key) != 0)
+                if (at == len)
                     break;
                 CHECK(read_listed(list, len, at, &next));
-            } while (true);
+            }
         }
     }
     return DNW_DONE;
@@ -506,9 +531,12 @@ static void writes_list(const uint8_t *list, size_t len, size_t max_size, size_t
     struct dnw_writer w;
     bool missing = false;
     struct dnw_packed written = {7, false};
-    uint32_t wanted = model_list(list, len, max_size, own, size, &w, &missing);
+    /* responses to queries, requests, and responses to updates */
+    static const uint16_t kinds[] = {0x8002, 0x8002, 2, 0xA802};
+    uint16_t flags = kinds[max_size % 4];
+    uint32_t wanted = model_list(list, len, max_size, flags, own, size, &w, &missing);
     uint8_t *message = clear(&lists, size);
-    uint32_t answer = dnw_message_write(list, len, max_size, 1, 2, message, size, &written);
+    uint32_t answer = dnw_message_write(list, len, max_size, 1, flags, message, size, &written);
     CHECK(answer == wanted);
     if (answer != DNW_DONE) {
         CHECK(written.len == 7 && !written.truncated);
