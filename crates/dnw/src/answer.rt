@@ -1,11 +1,11 @@
 //! What the program answers to its words.
 
-use crate::names::{names, nsec3, record};
+use crate::base::{Misuse, Refusal, Watch};
+use crate::messages::messages;
+use crate::names::{ds, key_tag, names, nsec3};
 use crate::queries::query_of;
-use dnw_shell_base::{Misuse, Refusal, Watch};
-use dnw_shell_messages::messages;
-use dnw_shell_names::sums::{ds_text, key_tag_text};
-use dnw_shell_zones::{digest, zone};
+use crate::zones::{digest, zone};
+use std::alloc::Global;
 use std::io;
 use std::io::{Read, Write};
 use std::random::RandomSource;
@@ -67,7 +67,7 @@ Examples: dnw query example.com. MX --dnssec | dnw message -
 /// Writes the answer to the words, the program's own name not among them, and returns the exit status: 0 for an
 /// answer, 1 for a refusal, 2 for words that ask for nothing, of which a line in `errors` says why. What watches long work is told when
 /// it ends, before anything is written. It fails if the answer cannot be written.
-pub fn answer<E: Files + RandomSource + AllocGlobal, I: Read, W: Write, X: Write, P: Watch>(
+pub(crate) fn answer<E: Files + RandomSource + AllocGlobal, I: Read, W: Write, X: Write, P: Watch>(
     env: &E,
     words: Result<&[String], Misuse>,
     input: &mut I,
@@ -80,20 +80,22 @@ pub fn answer<E: Files + RandomSource + AllocGlobal, I: Read, W: Write, X: Write
         Err(misuse) => Err(misuse.into()),
     };
     watch.ends();
-    match replied {
-        Ok(text) => {
-            writeln!(out, "{text}")?;
-            Ok(0)
-        }
-        Err(Refusal::Usage(misuse)) => {
-            writeln!(errors, "dnw: {misuse} (see dnw --help)")?;
-            Ok(2)
-        }
-        Err(refusal) => {
-            writeln!(out, "{refusal}")?;
-            Ok(1)
-        }
-    }
+    tell(replied, out, errors)
+}
+
+/// Writes a reply, and returns the exit status.
+fn tell<W: Write, X: Write>(
+    replied: Result<String, Refusal>,
+    out: &mut W,
+    errors: &mut X,
+) -> io::Result<u8> {
+    let (written, status) = match replied {
+        Ok(text) => (writeln!(out, "{text}"), 0),
+        Err(Refusal::Usage(misuse)) => (writeln!(errors, "dnw: {misuse} (see dnw --help)"), 2),
+        Err(refusal) => (writeln!(out, "{refusal}"), 1),
+    };
+    written?;
+    Ok(status)
 }
 
 fn reply<E: Files + RandomSource + AllocGlobal, I: Read, P: Watch>(
@@ -110,12 +112,21 @@ fn reply<E: Files + RandomSource + AllocGlobal, I: Read, P: Watch>(
         "message" => messages(env, alloc, words, input, watch),
         "query" => query_of(env, alloc, words),
         "name" => names(env, alloc, words, input),
-        "key-tag" => key_tag_text(alloc, record(alloc, words)?),
-        "ds" => ds_text(alloc, record(alloc, words)?),
+        "key-tag" => key_tag(alloc, words),
+        "ds" => ds(alloc, words),
         "nsec3" => nsec3(alloc, words),
         "zone-digest" => digest(env, alloc, words, input, watch),
         "zone" => zone(env, alloc, words, input, watch),
-        "--help" | "-h" => Ok(String::from_str(alloc, HELP)?),
-        other => Err(Misuse::Command(String::from_str(alloc, other)?).into()),
+        "--help" | "-h" => help(alloc),
+        other => no_command(alloc, other),
     }
+}
+
+fn help(alloc: Global) -> Result<String, Refusal> {
+    Ok(String::from_str(alloc, HELP)?)
+}
+
+/// Fails, since a word is no command.
+fn no_command(alloc: Global, word: &str) -> Result<String, Refusal> {
+    Err(Misuse::Command(String::from_str(alloc, word)?).into())
 }

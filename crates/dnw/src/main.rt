@@ -2,11 +2,19 @@
 #![tactic(auto)]
 
 mod answer;
+/// What the commands share.
+mod base;
+/// Whole messages.
+mod messages;
+/// Names, and the sums of DNSSEC over single records and names.
 mod names;
+/// Queries.
 mod queries;
+/// Zone files.
+mod zones;
 
 use answer::answer;
-use dnw_shell_base::{Misuse, Progress, Watch};
+use base::{Misuse, Progress, Watch};
 use std::io::{IsTerminal, Read, Write};
 use std::process::ExitCode;
 use std::random::RandomSource;

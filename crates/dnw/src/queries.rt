@@ -1,98 +1,10 @@
-//! What the words after `dnw query` ask for.
+//! Queries as `dnw query` makes them.
+//!
+//! Read `src/queries/command.rt` first: what the words ask for.
 
-use dns_names_wire::field_text::parse_u16;
-use dns_names_wire::name::Name;
-use dns_names_wire::record_type::RecordType;
-use dnw_shell_base::{Given, Known, Misuse, Refusal, word_octets};
-use dnw_shell_names::queries::{Asked, digits, query};
-use std::alloc::Global;
-use std::random::RandomSource;
+/// What the words after `dnw query` ask for.
+mod command;
+/// Queries.
+mod written;
 
-/// The octets of an option of EDNS before its own: its code and their number (RFC 6891, section 6.1.2).
-const OPTION_FRONT: usize = 4;
-
-/// The most octets that the options of a query have here, so that it fits into any message.
-const MAX_OPTIONS: usize = 32_768;
-
-/// The options of the command.
-const OPTIONS: [Known; 5] = [
-    Known::Valued("--id", "NUMBER"),
-    Known::Flag("--edns"),
-    Known::Flag("--dnssec"),
-    Known::Repeated("--option", "CODE:HEX"),
-    Known::Flag("--tcp"),
-];
-
-/// Returns the query that the words ask for, in hexadecimal digits.
-pub(crate) fn query_of<E: RandomSource>(
-    env: &E,
-    alloc: Global,
-    words: &[String],
-) -> Result<String, Refusal> {
-    let given = Given::of(alloc, words, &OPTIONS)?;
-    let [name, record_type] = given.plain.as_slice() else {
-        return Err(given.wrong_count(alloc, &["NAME", "TYPE"]));
-    };
-    let Some(record_type) = RecordType::from_text(record_type) else {
-        return Err(Misuse::wrong(alloc, "a record type", record_type));
-    };
-    let dnssec_ok = given.has("--dnssec");
-    let asked = Asked {
-        id: id_of(env, alloc, &given)?,
-        name: Name::from_text(alloc, name, None)?,
-        record_type,
-        has_edns: given.has("--edns") || dnssec_ok || given.has("--option"),
-        dnssec_ok,
-        options: options_of(alloc, &given)?,
-    };
-    digits(alloc, query(alloc, &asked)?.as_slice(), given.has("--tcp"))
-}
-
-/// The id that is given, or one that cannot be guessed (RFC 5452, section 9.2).
-fn id_of<E: RandomSource>(env: &E, alloc: Global, given: &Given<'_>) -> Result<u16, Refusal> {
-    if let Some(id) = given.value("--id") {
-        return number(alloc, id);
-    }
-    let mut octets = [0; 2];
-    match env.fill_bytes(&mut octets) {
-        Ok(()) => Ok(u16::from_be_bytes(octets)),
-        Err(error) => Err(Refusal::Chance(error)),
-    }
-}
-
-/// The octets of the options of EDNS.
-fn options_of(alloc: Global, given: &Given<'_>) -> Result<Vec<u8>, Refusal> {
-    let mut options = Vec::new(alloc);
-    for (option, value) in &given.options {
-        if *option == "--option" {
-            push_option(alloc, value, &mut options)?;
-        }
-    }
-    Ok(options)
-}
-
-/// Appends an option of EDNS, which is given as its code and its octets.
-fn push_option(alloc: Global, value: &str, options: &mut Vec<u8>) -> Result<(), Refusal> {
-    let (code, digits) = value.split_once(':').unwrap_or((value, ""));
-    let code = number(alloc, code)?;
-    let octets = word_octets(alloc, digits)?;
-    let room = MAX_OPTIONS
-        .saturating_sub(options.len())
-        .saturating_sub(OPTION_FRONT);
-    let len = match u16::try_from(octets.len()) {
-        Ok(len) if usize::from(len) <= room => len,
-        _ => return Err(Refusal::Options),
-    };
-    options.extend_from_slice(&code.to_be_bytes())?;
-    options.extend_from_slice(&len.to_be_bytes())?;
-    options.extend_from_slice(octets.as_slice())?;
-    Ok(())
-}
-
-/// The number that a word is.
-fn number(alloc: Global, word: &str) -> Result<u16, Refusal> {
-    let Ok(number) = parse_u16(word) else {
-        return Err(Misuse::wrong(alloc, "a number of at most 65535", word));
-    };
-    Ok(number)
-}
+pub(crate) use command::query_of;

@@ -1,0 +1,5 @@
+pub mod Asking
+pub mod Inside
+pub mod Refusals
+pub mod Shown
+pub mod Sums

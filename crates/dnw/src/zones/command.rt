@@ -1,0 +1,108 @@
+//! What the words after `dnw zone` and `dnw zone-digest` ask for.
+
+use crate::base::{Given, Known, Misuse, Refusal, Watch, contents};
+use crate::zones::listing::listing;
+use crate::zones::shown::{Form, Wanted};
+use dns_names_wire::binary::BinDecodable;
+use dns_names_wire::data_text::parse_entry;
+use dns_names_wire::dnssec::zone_digest;
+use dns_names_wire::field_text::parse_u8;
+use dns_names_wire::name::Name;
+use dns_names_wire::rdata::Record;
+use dns_names_wire::record::RecordRef;
+use std::alloc::Global;
+use std::io::Read;
+use std::rt::Files;
+
+/// The options of `dnw zone`.
+const OPTIONS: [Known; 5] = [
+    Known::Valued("--origin", "NAME"),
+    Known::Flag("--sort"),
+    Known::Flag("--relative"),
+    Known::Flag("--wire"),
+    Known::Flag("--check"),
+];
+
+/// Returns the records of the zone file that the words name, or of standard input if it is `-`, as the options ask for. Names without
+/// a dot at their end are below the origin. If an entry is wrong, the lines of all errors are a refusal.
+pub(crate) fn zone<E: Files, I: Read, P: Watch>(
+    env: &E,
+    alloc: Global,
+    words: &[String],
+    input: &mut I,
+    watch: &mut P,
+) -> Result<String, Refusal> {
+    let given = Given::of(alloc, words, &OPTIONS)?;
+    let wanted = wanted_of(&given)?;
+    let [file] = given.plain.as_slice() else {
+        return Err(given.wrong_count(alloc, &["FILE or -"]));
+    };
+    let Some(origin) = given.value("--origin") else {
+        return Err(Misuse::Missing("--origin NAME").into());
+    };
+    let zone = contents(env, alloc, file, input)?;
+    listing(env, alloc, file, origin, wanted, zone, watch)
+}
+
+/// What the options ask for: of `--relative`, `--wire` and `--check` only one is there.
+fn wanted_of(given: &Given<'_>) -> Result<Wanted, Refusal> {
+    let form = match given.one_of(&["--relative", "--wire", "--check"])? {
+        Some("--relative") => Form::Relative,
+        Some("--wire") => Form::Wire,
+        Some(_) => Form::Findings,
+        None => Form::Lines,
+    };
+    Ok(Wanted {
+        form,
+        is_sorted: given.has("--sort"),
+    })
+}
+
+/// Returns the digest that a ZONEMD record of a zone has (RFC 8976), by the hash algorithm, in hexadecimal digits. The words are the
+/// apex, the algorithm and the zone file, whose names without a dot at their end are below the apex.
+pub(crate) fn digest<E: Files, I: Read, P: Watch>(
+    env: &E,
+    alloc: Global,
+    words: &[String],
+    input: &mut I,
+    watch: &mut P,
+) -> Result<String, Refusal> {
+    let given = Given::of(alloc, words, &[])?;
+    let [apex, algorithm, file] = given.plain.as_slice() else {
+        return Err(given.wrong_count(alloc, &["APEX", "ALGORITHM", "FILE or -"]));
+    };
+    let Ok(algorithm) = parse_u8(algorithm) else {
+        return Err(Misuse::wrong(alloc, "a number of at most 255", algorithm));
+    };
+    let zone = contents(env, alloc, file, input)?;
+    let wanted = Wanted {
+        form: Form::Lines,
+        is_sorted: false,
+    };
+    let lines = listing(env, alloc, file, apex, wanted, zone, watch)?;
+    digest_of(alloc, apex, lines.as_str(), algorithm)
+}
+
+/// Returns the digest of a zone that has its records as lines.
+fn digest_of(alloc: Global, apex: &str, lines: &str, algorithm: u8) -> Result<String, Refusal> {
+    let apex = Name::from_text(alloc, apex, None)?;
+    let records = records_of(alloc, lines)?;
+    let digest = zone_digest(alloc, &apex, records.as_slice(), algorithm)?;
+    Ok(hex::encode(alloc, digest.as_slice())?)
+}
+
+/// Returns the records of lines.
+fn records_of(alloc: Global, lines: &str) -> Result<Vec<Record>, Refusal> {
+    let mut records = Vec::new(alloc);
+    for line in lines.lines() {
+        records.push(record_of(alloc, line)?)?;
+    }
+    Ok(records)
+}
+
+/// Returns the record of a line.
+fn record_of(alloc: Global, line: &str) -> Result<Record, Refusal> {
+    let octets = parse_entry(alloc, line.as_bytes(), None)?;
+    let record = RecordRef::from_bytes(alloc, octets.as_slice())?;
+    Ok(Record::from_ref(alloc, &record)?)
+}

@@ -1,3 +1,0 @@
-pub mod Sums
-pub mod Shown
-pub mod Asking
