@@ -1,6 +1,6 @@
 /* Calls the functions of dns_names_wire.h for the sums of DNSSEC with good and with bad input. It prints nothing if all is well,
    and exits with 1 at the first result that is not the expected one. Expected values are those of RFC 6605, section 6.1, of RFC 5155,
-   appendix A, of RFC 8976, appendix A.1, and of the zone of RFC 4035, appendix A. */
+   appendix A, of RFC 8976, appendix A, and of the zone of RFC 4035, appendix A. */
 #include "dns_names_wire.h"
 #include "expect.h"
 
@@ -156,6 +156,87 @@ static void digests_zones(void)
     EXPECT(dnw_zone_digest(BYTES("\007"), BYTES(ZONE "\000"), 3, buffer, sizeof buffer, &len) == DNW_MESSAGE_CUT && untouched());
 }
 
+/* an address, whose owner is before it */
+#define ADDRESS "\000\001\000\001\000\000\016\020\000\004\300\000\002\001"
+
+static void leaves_out_records_out_of_the_zone(void)
+{
+    clear();
+    EXPECT(dnw_zone_digest(BYTES(EXAMPLE), BYTES("\003foo\004test\000" ADDRESS ZONE), 1, buffer, 48, &len) == DNW_DONE);
+    EXPECT(holds(ZONE_DIGEST, 48));
+    EXPECT(dnw_zone_digest(BYTES(EXAMPLE), BYTES(ZONE "\012notexample\000" ADDRESS), 1, buffer, 48, &len) == DNW_DONE);
+    EXPECT(holds(ZONE_DIGEST, 48));
+    EXPECT(dnw_zone_digest(BYTES(EXAMPLE), BYTES(ZONE "\000" ADDRESS), 1, buffer, 48, &len) == DNW_DONE);
+    EXPECT(holds(ZONE_DIGEST, 48));
+    EXPECT(dnw_zone_digest(BYTES(EXAMPLE), BYTES(ZONE "\003foo\007EXAMPLE\000" ADDRESS), 1, buffer, 48, &len) == DNW_DONE);
+    EXPECT(!holds(ZONE_DIGEST, 48));
+}
+
+static uint8_t text[1 << 14], records[1 << 14];
+static size_t records_len;
+
+/* the digests at the apex of a zone, by their hash algorithm */
+static uint8_t digests[3][DNW_DIGEST_SIZE];
+
+/* Keeps the digest of a ZONEMD record of the scheme SIMPLE at the apex (RFC 8976, section 2.2). */
+static void keep_digest(const uint8_t *record, const struct dnw_zone_entry *entry, const char *apex)
+{
+    const uint8_t *data = record + entry->len - entry->data_len;
+    bool at_apex = entry->name_len == strlen(apex) + 1 && memcmp(record, apex, entry->name_len) == 0;
+    if (entry->record_type == DNW_TYPE_ZONEMD && at_apex && data[4] == 1 && data[5] <= 2)
+        memcpy(digests[data[5]], data + 6, entry->data_len - 6);
+}
+
+/* Reads a zone of the repository that has its own digests. Returns false if there is no such file. */
+static bool read_zone(const char *name, const char *apex)
+{
+    char path[80];
+    snprintf(path, sizeof path, "diff/included/digests/%s.zone", name);
+    FILE *file = fopen(path, "rb");
+    if (file == NULL)
+        return false;
+    size_t text_len = fread(text, 1, sizeof text, file), read = 0;
+    EXPECT(text_len < sizeof text && fclose(file) == 0);
+    struct dnw_zone zone;
+    struct dnw_zone_entry entry;
+    EXPECT(dnw_zone_begin((const uint8_t *)apex, strlen(apex) + 1, &zone) == DNW_DONE);
+    records_len = 0;
+    do {
+        uint8_t *record = records + records_len;
+        EXPECT(dnw_zone_next(text + read, text_len - read, false, &zone, record, sizeof records - records_len, &entry) == DNW_DONE);
+        EXPECT(entry.kind == DNW_ZONE_END || entry.kind == DNW_ZONE_NOTHING || entry.kind == DNW_ZONE_RECORD);
+        if (entry.kind == DNW_ZONE_RECORD)
+            keep_digest(record, &entry, apex);
+        read += entry.used;
+        records_len += entry.len;
+    } while (entry.kind != DNW_ZONE_END);
+    return true;
+}
+
+/* The zones of RFC 8976, appendix A, and one whose digests are those of dnspython. The tests that are installed have no files. */
+static void zones_have_their_digests(void)
+{
+    static const struct {
+        const char *name, *apex;
+        uint8_t last_algorithm;
+    } zones[] = {{"simple", "\007example", 1}, {"complex", "\007example", 1},
+                 {"multiple", "\007example", 2}, {"uri.arpa", "\003uri\004arpa", 1},
+                 {"root-servers.net", "\014root-servers\003net", 1}, {"outside", "\007example", 2}};
+    size_t count = sizeof zones / sizeof zones[0];
+    if (!read_zone(zones[0].name, zones[0].apex))
+        return;
+    for (size_t i = 0; i < count; i++) {
+        memset(digests, 0, sizeof digests);
+        EXPECT(read_zone(zones[i].name, zones[i].apex));
+        for (uint8_t algorithm = 1; algorithm <= zones[i].last_algorithm; algorithm++) {
+            clear();
+            EXPECT(dnw_zone_digest((const uint8_t *)zones[i].apex, strlen(zones[i].apex) + 1, records, records_len, algorithm, buffer,
+                                   sizeof buffer, &len) == DNW_DONE);
+            EXPECT(holds((const char *)digests[algorithm], algorithm == 1 ? 48 : 64));
+        }
+    }
+}
+
 int main(void)
 {
     makes_key_tags();
@@ -163,5 +244,7 @@ int main(void)
     hashes_names();
     covers_names();
     digests_zones();
+    leaves_out_records_out_of_the_zone();
+    zones_have_their_digests();
     return 0;
 }

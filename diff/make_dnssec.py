@@ -19,6 +19,8 @@ import dns.zone
 APEX = dns.name.from_text("Example.")
 DIGESTS = {1: "SHA1", 2: "SHA256", 4: "SHA384"}
 DATA = ["A 192.0.2.{}", "MX {} Mail.Example.", "NS N{}.Example.", 'TXT "{}"', "SRV 1 2 {} B.a.", "NSEC N{}.Example. A", "ZONEMD {} 1 240 000102030405060708090a0b"]
+# The last labels of names out of the zone, and the zone's own with other capitals.
+OTHERS = [b"test", b"notexample", b"ample", b"EXAMPLE"]
 
 chance = random.Random(8976)
 
@@ -67,13 +69,16 @@ def covered_names():
 
 
 def zones():
-    print("\n# Zones of random records.")
+    print("\n# Zones of random records, of which some are out of the zone.")
     for _ in range(40):
         zone, words = dns.zone.Zone(APEX, relativize=False), []
         for _ in range(chance.randint(1, 12)):
             owner, text = name(), chance.choice(DATA).format(chance.randint(0, 9))
+            if chance.random() < 0.2:
+                owner = dns.name.Name([*owner.labels[:-2], chance.choice(OTHERS), b""])
             rdata = dns.rdata.from_text("IN", *text.split(" ", 1))
-            zone.find_rdataset(owner, rdata.rdtype, rdata.covers(), create=True).add(rdata, 60)
+            if owner.is_subdomain(APEX):
+                zone.find_rdataset(owner, rdata.rdtype, rdata.covers(), create=True).add(rdata, 60)
             words.append(f"{owner},1,{int(rdata.rdtype)},60,{rdata.to_wire().hex()}")
         algorithm = chance.choice([1, 2])
         print(f"zone-digest {APEX} {algorithm} {' '.join(words)} = {zone._compute_digest(algorithm).hex()}")

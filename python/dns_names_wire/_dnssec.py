@@ -111,11 +111,12 @@ def nsec3_covers(own_hash: Bytes, next_hash: Bytes, name_hash: Bytes) -> bool:
 
 
 def zone_digest(apex: Name, records: Iterable[Record], algorithm: int) -> bytes:
-    """Returns the digest of a zone that a ZONEMD record has, by the scheme SIMPLE (RFC 8976, section 3.3.1), from all
-    its records in any order, glue records too. Hash algorithm 1 is SHA-384, and 2 is SHA-512.
+    """Returns the digest of a zone that a ZONEMD record has, by the scheme SIMPLE (RFC 8976, section 3.3.1), from
+    records of one class in any order. Hash algorithm 1 is SHA-384, and 2 is SHA-512.
 
-    Records that are the same but for the TTL count once, with the least TTL. The ZONEMD records at the apex, and the
-    RRSIG records there that cover ZONEMD, are left out, so they may be given.
+    The records of the zone are digested, glue and what is below a delegation too. Those whose owner is neither the apex
+    nor below it are left out. Records that are the same but for the TTL count once, with the least TTL. The ZONEMD
+    records at the apex, and the RRSIG records there that cover ZONEMD, are left out, so they may be given.
 
     Raises `UnknownAlgorithm` for another hash algorithm, `DataTooLong` if a record has more than 65535 octets of data
     once names are uncompressed, and as `Record.fields` for data that are not valid.

@@ -1,12 +1,13 @@
 """The sums of DNSSEC: the examples of their RFCs, and what dnspython makes of random input if it is installed."""
 
 import hashlib
+import pathlib
 import random
 import struct
 import unittest
 
 import dns_names_wire as dnw
-from dns_names_wire import Name, Record
+from dns_names_wire import Name, Record, RecordType
 
 try:
     import dns.dnssec
@@ -56,6 +57,17 @@ example. 86400 IN ZONEMD 2018031900 1 1 {ZONE_DIGEST}
 ns1.example. 3600 IN A 203.0.113.63
 ns2.example. 3600 IN AAAA 2001:db8::63"""
 
+# The zones of RFC 8976, appendix A, and one whose digests are those of dnspython: their apexes, and how many digests they have.
+ZONES = pathlib.Path(__file__).resolve().parents[2] / "diff" / "included" / "digests"
+DIGESTS = {
+    "simple": ("example.", 1),
+    "complex": ("example.", 1),
+    "multiple": ("example.", 2),
+    "uri.arpa": ("uri.arpa.", 1),
+    "root-servers.net": ("root-servers.net.", 1),
+    "outside": ("example.", 2),
+}
+
 
 def random_octets(chance, least, most):
     return bytes(chance.choices(range(256), k=chance.randint(least, most)))
@@ -97,6 +109,25 @@ class Sums(unittest.TestCase):
         whole = b"".join(record.to_wire() for record in below)
         self.assertEqual(dnw.zone_digest(Name("a."), apex + below[::-1], 2), hashlib.sha512(whole).digest())
         self.assertEqual(dnw.zone_digest(Name("a."), apex, 2), hashlib.sha512(b"").digest())
+
+    def test_records_out_of_the_zone_are_left_out(self):
+        zone = [Record.from_text(line) for line in ZONE.split("\n")]
+        for owner in ("foo.test.", "notexample.", "ample.", "."):
+            zone.insert(0, Record.from_text(f"{owner} 60 IN A 192.0.2.1"))
+            self.assertEqual(dnw.zone_digest(Name("example."), zone, 1).hex(), ZONE_DIGEST)
+        zone.append(Record.from_text("foo.EXAMPLE. 60 IN A 192.0.2.1"))
+        self.assertNotEqual(dnw.zone_digest(Name("example."), zone, 1).hex(), ZONE_DIGEST)
+
+    @unittest.skipIf(not ZONES.is_dir(), "the zones of the repository are not there")
+    def test_zones_have_their_digests(self):
+        for file, (text, count) in DIGESTS.items():
+            apex = Name(text)
+            zone = list(dnw.read_zone(ZONES / f"{file}.zone", apex))
+            at_apex = [it.data for it in zone if it.owner == apex and it.record_type == RecordType.ZONEMD]
+            known = [data for data in at_apex if data.scheme == 1 and data.hash_algorithm <= 2]
+            self.assertEqual(len(known), count, file)
+            for data in known:
+                self.assertEqual(dnw.zone_digest(apex, zone, data.hash_algorithm), data.digest, file)
 
     def test_a_record_covers_what_is_between_its_names(self):
         # the names of RFC 4035, appendix A

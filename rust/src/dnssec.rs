@@ -133,11 +133,12 @@ pub fn nsec3_covers(own: &[u8], next: &[u8], hash: &[u8]) -> bool {
     ffi::nsec3_covers(own, next, hash)
 }
 
-/// Returns the digest of a zone that a ZONEMD record has, by the scheme SIMPLE (RFC 8976, section 3.3.1), from all its
-/// records in any order, glue records too. Hash algorithm 1 is SHA-384, and 2 is SHA-512.
+/// Returns the digest of a zone that a ZONEMD record has, by the scheme SIMPLE (RFC 8976, section 3.3.1), from records of
+/// one class in any order. Hash algorithm 1 is SHA-384, and 2 is SHA-512.
 ///
-/// Records that are the same but for the TTL count once, with the least TTL. The ZONEMD records at the apex, and the
-/// RRSIG records there that cover ZONEMD, are left out, so they may be given.
+/// The records of the zone are digested, glue and what is below a delegation too. Those whose owner is neither the apex
+/// nor below it are left out. Records that are the same but for the TTL count once, with the least TTL. The ZONEMD
+/// records at the apex, and the RRSIG records there that cover ZONEMD, are left out, so they may be given.
 ///
 /// # Errors
 ///

@@ -1,4 +1,4 @@
-//! The sums of DNSSEC, by the examples of RFC 6605, section 6.1, RFC 5155, appendix A, RFC 8976, appendix A.1, and by the
+//! The sums of DNSSEC, by the examples of RFC 6605, section 6.1, RFC 5155, appendix A, RFC 8976, appendix A, and by the
 //! names of RFC 4035, appendix A.
 use dns_names_wire::dnssec::{ds_digest, key_tag, nsec3_covers, nsec_covers, zone_digest, Nsec3Params};
 use dns_names_wire::{ErrorKind, Name, RecordBuf};
@@ -76,4 +76,51 @@ fn a_zone_has_its_digest() {
     assert_eq!(hex(&zone_digest(&name("example."), twice, 1).unwrap()), ZONE_DIGEST);
     assert_eq!(zone_digest(&name("example."), &zone, 2).unwrap().len(), 64);
     assert_eq!(zone_digest(&name("example."), &zone, 3).unwrap_err().kind(), ErrorKind::UnknownAlgorithm);
+}
+
+#[test]
+fn records_out_of_the_zone_are_left_out() {
+    let mut zone = ZONE.map(|line| line.parse::<RecordBuf>().unwrap()).to_vec();
+    for owner in ["foo.test.", "notexample.", "ample.", "."] {
+        zone.insert(0, format!("{owner} 60 IN A 192.0.2.1").parse().unwrap());
+        assert_eq!(hex(&zone_digest(&name("example."), &zone, 1).unwrap()), ZONE_DIGEST);
+    }
+    zone.push("foo.EXAMPLE. 60 IN A 192.0.2.1".parse().unwrap());
+    assert_ne!(hex(&zone_digest(&name("example."), &zone, 1).unwrap()), ZONE_DIGEST);
+}
+
+/// The zones of RFC 8976, appendix A, and one whose digests are those of dnspython, with their ZONEMD records. The packed crate
+/// has no such files.
+#[cfg(feature = "std")]
+#[test]
+fn zones_have_their_digests() {
+    use dns_names_wire::{RData, ZoneFile};
+
+    let folder = std::path::Path::new(env!("CARGO_MANIFEST_DIR")).join("../diff/included/digests");
+    if !folder.is_dir() {
+        return;
+    }
+    for (file, apex, count) in [
+        ("simple", "example.", 1),
+        ("complex", "example.", 1),
+        ("multiple", "example.", 2),
+        ("uri.arpa", "uri.arpa.", 1),
+        ("root-servers.net", "root-servers.net.", 1),
+        ("outside", "example.", 2),
+    ] {
+        let apex = name(apex);
+        let records = ZoneFile::open(folder.join(format!("{file}.zone")), &apex).unwrap();
+        let zone: Vec<RecordBuf> = records.map(Result::unwrap).collect();
+        let mut digests = 0;
+        for record in zone.iter().map(RecordBuf::as_record).filter(|record| record.owner() == apex) {
+            match record.data().unwrap() {
+                RData::ZONEMD(it) if it.scheme == 1 && it.hash_algorithm <= 2 => {
+                    assert_eq!(hex(&zone_digest(&apex, &zone, it.hash_algorithm).unwrap()), hex(it.digest), "{file}");
+                    digests += 1;
+                }
+                _ => {}
+            }
+        }
+        assert_eq!(digests, count, "{file}");
+    }
 }

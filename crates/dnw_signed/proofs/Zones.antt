@@ -4,15 +4,16 @@ use Rattle.std.proofs.lemmas.Cmp.{nat_cmp_total, nat_list_cmp_total, lists_total
 use Rattle.std.proofs.lemmas.List.{length-append}
 use Rattle.std.specs.Cmp.{IsTotalOrder}
 use Rattle.std.specs.Int.{w16, w32, to_be_bytes}
-use Rattle.std.specs.List.{AllByRecursion, AllZip, filter}
+use Rattle.std.specs.List.{AllByRecursion}
 use Rattle.std.specs.Prelude.{Some}
 use Rattle.sha2.specs.Sha512.{sha384, sha512}
 use Rattle.dnw_base.specs.Limits.{max_message}
 use Rattle.dnw_base.specs.Names.{lower, wire}
 use Rattle.dnw_name_order.specs.Order.{canonical}
 use Rattle.dnw_record.specs.declared.record.Record.{Record}
-use Rattle.dnw_signed.specs.Inside.Measuring.{AreMeasured}
-use Rattle.dnw_signed.specs.ZoneDigests.{CanonicalRecord, FirstTooLong, HasShortData, IsCanonicalRecord, IsZoneHash, is_digested, zone_cmp, zone_hash, zone_record}
+use Rattle.dnw_signed.specs.Inside.Measuring.{AreDigestedBefore, AreMeasured}
+use Rattle.dnw_signed.specs.ZoneDigests.{AreDigested, CanonicalRecord, FirstTooLong, HasShortData, IsCanonicalRecord, IsDigested, IsZoneHash, zone_cmp, zone_hash, zone_record}
+use Rattle.dnw_signed.specs.ZoneDigests.{first_digested, first_left_out, no_records}
 
 fit_push : (done : List Record) (item : Record) → AllByRecursion HasShortData done → HasShortData item → AllByRecursion HasShortData (done ++ item ∷ [])
 fit_push [] item all one = (one, tt)
@@ -43,12 +44,30 @@ first_too_long item records left others number c is at long =
       longer = long;
     }
 
-pub all_digested : (apex : List (List ℕ)) (records left : List Record) (zone : List CanonicalRecord) → length left ≡ 0
-    → ((more : List CanonicalRecord) → AllZip IsCanonicalRecord (filter (is_digested apex) left) more
-    → AllZip IsCanonicalRecord (filter (is_digested apex) records) (zone ++ more))
-    → AllZip IsCanonicalRecord (filter (is_digested apex) records) zone
-all_digested apex records [] zone none rest = subst (AllZip IsCanonicalRecord (filter (is_digested apex) records)) (append-nil zone) (rest [] tt)
-all_digested apex records (r ∷ left) zone none rest = absurd (omega (arith, none))
+-- ---- which of them are digested
+
+pub none_before : (apex : List (List ℕ)) (records : List Record) → AreDigestedBefore apex records records []
+none_before apex records = record { rest = λ more h. h }
+
+pub one_digested : (apex : List (List ℕ)) (r : Record) (z : CanonicalRecord) (records left others : List Record) (zone : List CanonicalRecord)
+    → AreDigestedBefore apex records left zone → left ≡ r ∷ others → IsDigested apex r → IsCanonicalRecord r z
+    → AreDigestedBefore apex records others (zone ++ z ∷ [])
+one_digested apex r z records left others zone c is digested canonical =
+    record {
+      rest = λ more h.
+          subst (AreDigested apex records) (sym (append_assoc zone (z ∷ []) more))
+          (c.rest (z ∷ more) (subst (λ rs. AreDigested apex rs (z ∷ more)) (sym is) (first_digested r z others more digested canonical h)));
+    }
+
+pub one_left_out : (apex : List (List ℕ)) (r : Record) (records left others : List Record) (zone : List CanonicalRecord)
+    → AreDigestedBefore apex records left zone → left ≡ r ∷ others → (¬ (IsDigested apex r)) → AreDigestedBefore apex records others zone
+one_left_out apex r records left others zone c is other =
+    record { rest = λ more h. c.rest more (subst (λ rs. AreDigested apex rs more) (sym is) (first_left_out r others more other h)) }
+
+pub all_digested : (apex : List (List ℕ)) (records left : List Record) (zone : List CanonicalRecord) → AreDigestedBefore apex records left zone
+    → length left ≡ 0 → AreDigested apex records zone
+all_digested apex records [] zone c none = subst (AreDigested apex records) (append-nil zone) (c.rest [] no_records)
+all_digested apex records (r ∷ left) zone c none = absurd (omega (arith, none))
 
 -- ---- their order
 

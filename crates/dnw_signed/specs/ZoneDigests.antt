@@ -1,9 +1,9 @@
 -- The digest of a zone by the scheme SIMPLE, as ZONEMD has it (RFC 8976, section 3.3.1).
-use Rattle.std.specs.Prelude.{◌≡◌, ◌<◌, ◌≤◌, ℕ, ◌==◌, ◌&&◌, ◌||◌, ◌⊎◌, Bool, false, not, if◌then◌else◌, List, ◌∷◌, ◌++◌, length, Option, Some, None}
+use Rattle.std.specs.Prelude.{◌≡◌, ◌<◌, ◌≤◌, ℕ, ◌==◌, ◌&&◌, ◌||◌, ◌⊎◌, Bool, false, if◌then◌else◌, List, [], ◌∷◌, ◌++◌, length, Option, Some, None, IsTrue}
 use Rattle.std.specs.Int.{w16, w32, to_be_bytes}
-use Rattle.std.specs.List.{AllByRecursion, AllZip, dedup, filter, flat_map}
+use Rattle.std.specs.List.{AllByRecursion, dedup, flat_map}
 use Rattle.std.specs.List.Sorted.{IsPermutation, IsSorted}
-use Rattle.std.specs.Ordering.{eq_by_cmp, is_eq, nat_cmp, on, then_cmp}
+use Rattle.std.specs.Ordering.{eq_by_cmp, nat_cmp, on, then_cmp}
 use Rattle.std.specs.declared.cmp.Ordering.{Ordering}
 use Rattle.sha2.specs.Sha512.{sha384, sha512}
 use Rattle.dnw_base.specs.RecordTypes.{type_code}
@@ -11,7 +11,7 @@ use Rattle.dnw_base.specs.DnsClasses.{class_code}
 use Rattle.dnw_base.specs.Limits.{max_message}
 use Rattle.dnw_base.specs.Names.{lower, wire}
 use Rattle.dnw_name_form.specs.LabelOrder.{octets_cmp}
-use Rattle.dnw_name_order.specs.Order.{labels_cmp}
+use Rattle.dnw_name_order.specs.Order.{IsZoneOf, labels_cmp}
 use Rattle.dnw_record.specs.declared.record.Record.{Record}
 use Rattle.dnw_signed.specs.CanonicalData.{IsCanonical}
 use Rattle.dnw_signed.specs.declared.error.DnssecError.{DnssecError}
@@ -54,7 +54,7 @@ is_duplicate = eq_by_cmp place_cmp
 abbrev pub zone_cmp : CanonicalRecord → CanonicalRecord → Ordering
 zone_cmp = then_cmp place_cmp (on (λ z. z.ttl) nat_cmp)
 
--- ---- which records are covered
+-- ---- which records are digested
 
 -- the types ZONEMD (RFC 8976, section 5.1) and RRSIG (RFC 4034, section 3)
 abbrev pub zonemd_code : ℕ
@@ -72,9 +72,24 @@ covers_zonemd octets = false
 abbrev pub is_of_zonemd : ℕ → List ℕ → Bool
 is_of_zonemd code octets = code == zonemd_code || (code == rrsig_code && covers_zonemd octets)
 
--- all records but those at the apex which the digest itself goes into (RFC 8976, section 3.3.1.1)
-abbrev pub is_digested : List (List ℕ) → Record → Bool
-is_digested apex r = not (is_eq (labels_cmp r.name.labels apex) && is_of_zonemd (type_code r.data.record_type) r.data.octets)
+-- The digest goes into such a record: one at the apex that is of ZONEMD.
+pub record HoldsDigest (apex : List (List ℕ)) (r : Record) : Type 0 where
+  pub at_apex : lower r.name.labels ≡ lower apex
+  pub of_zonemd : IsTrue (is_of_zonemd (type_code r.data.record_type) r.data.octets)
+
+-- It is in the zone, at the apex or below it, and the digest goes not into it. So glue and what a cut hides are digested, and
+-- records out of the zone are not (RFC 8976, section 3.3.1.1).
+pub record IsDigested (apex : List (List ℕ)) (r : Record) : Type 0 where
+  pub in_zone : IsZoneOf apex r.name.labels
+  pub other : ¬ (HoldsDigest apex r)
+
+-- These are the records that are digested, in canonical form. All others are left out.
+pub data AreDigested (apex : List (List ℕ)) : List Record → List CanonicalRecord → Type 0 where
+  no_records : AreDigested apex [] []
+  first_digested : (r : Record) (z : CanonicalRecord) (records : List Record) (all : List CanonicalRecord)
+      → IsDigested apex r → IsCanonicalRecord r z → AreDigested apex records all → AreDigested apex (r ∷ records) (z ∷ all)
+  first_left_out : (r : Record) (records : List Record) (all : List CanonicalRecord)
+      → (¬ (IsDigested apex r)) → AreDigested apex records all → AreDigested apex (r ∷ records) all
 
 -- ---- what is hashed
 
@@ -85,10 +100,10 @@ pub record IsZoneOrder (all ordered : List CanonicalRecord) : Type 0 where
   pub ascend : IsSorted zone_cmp sorted
   pub once : ordered ≡ dedup is_duplicate sorted
 
--- These octets are hashed: those of each record that is covered, once and in order.
+-- These octets are hashed: those of each record that is digested, once and in order.
 pub record AreZoneOctets (apex : List (List ℕ)) (records : List Record) (octets : List ℕ) : Type 0 where
   pub all : List CanonicalRecord
-  pub canonical : AllZip IsCanonicalRecord (filter (is_digested apex) records) all
+  pub digested : AreDigested apex records all
   pub ordered : List CanonicalRecord
   pub in_order : IsZoneOrder all ordered
   pub joined : octets ≡ flat_map zone_record ordered

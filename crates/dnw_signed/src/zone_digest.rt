@@ -1,10 +1,11 @@
 //! Digests of zones, as ZONEMD records have them.
 ghost use Rattle.std.specs.Prelude.{◌≡◌, ℕ, List, ◌↔◌, ◌≤◌, ◌++◌, length, IfOk, IfErr, OnOk, IsTrue};
-ghost use Rattle.std.specs.List.{AllByRecursion, AllZip, filter, flat_map};
+ghost use Rattle.std.specs.List.{AllByRecursion, flat_map};
 ghost use Rattle.dnw_base.specs.Limits.{max_message};
+ghost use Rattle.dnw_base.specs.Names.{lower};
 ghost use Rattle.dnw_base.specs.RecordTypes.{type_code};
-ghost use Rattle.dnw_signed.specs.ZoneDigests.{FailsZoneDigest, FirstTooLong, HasShortData, IsZoneOrder, IsZoneDigest, IsZoneHash, IsCanonicalRecord};
-ghost use Rattle.dnw_signed.specs.ZoneDigests.{covers_zonemd, is_digested, is_of_zonemd, place_cmp, zone_cmp, zone_record};
+ghost use Rattle.dnw_signed.specs.ZoneDigests.{AreDigested, FailsZoneDigest, FirstTooLong, HasShortData, HoldsDigest, IsDigested, IsZoneDigest, IsZoneHash, IsZoneOrder};
+ghost use Rattle.dnw_signed.specs.ZoneDigests.{covers_zonemd, is_duplicate, is_of_zonemd, place_cmp, zone_cmp, zone_record};
 ghost use Rattle.dnw_signed.specs.Inside.Measuring.{HaveShortData};
 ghost use Rattle.dnw_signed.specs.declared.error.DnssecError.TheVariants.{DataTooLong};
 
@@ -50,9 +51,10 @@ impl<'a> Model for ZoneRecord<'a> {
 /// Returns the digest of a zone by the scheme SIMPLE (RFC 8976, section 3.3.1): the hash of all its records in canonical form, in
 /// canonical order of their owners, types and data.
 ///
-/// The records may be in any order. Those that are the same but for their time to live are one, with the least one. The ZONEMD
-/// records at the apex, and the RRSIG records there that cover them, are left out: so a zone may be given with its digest. All other
-/// records are hashed: the caller gives those of the zone, glue records too, and of one class.
+/// The records may be in any order. Those that are the same but for their time to live are one, with the least one. Those whose owner
+/// is neither the apex nor below it are out of the zone, and left out. So are the ZONEMD records at the apex, and the RRSIG records
+/// there that cover them: a zone may be given with its digest. All others are hashed, glue records and those below a delegation too.
+/// The caller gives records of one class.
 ///
 /// Hash algorithm 1 is SHA-384, and 2 is SHA-512. It fails with `UnknownHash` for any other, with `DataTooLong` if the data of a
 /// record have more than 65,535 octets, and with `Memory` if an allocation fails.
@@ -102,14 +104,15 @@ fn check_lengths(records: &[Record]) -> Result<(), DnssecError>
     Ok(())
 }
 
-/// Returns the records that the digest covers, each with its data in canonical form.
+/// Returns the records that are digested, each with its data in canonical form.
+#[tactic(auto, using(crate::proofs::Zones::none_before, crate::proofs::Zones::one_digested, crate::proofs::Zones::one_left_out, crate::proofs::Zones::all_digested))]
 fn digested<'a>(
     alloc: Global,
     apex: &Name,
     records: &'a [Record],
 ) -> Result<Vec<ZoneRecord<'a>>, AllocError>
     requires { AllByRecursion HasShortData records.now }
-    ensures zone { IfOk result (λ zone. AllZip IsCanonicalRecord (filter (is_digested apex.now.labels) records.now) zone.items) }
+    ensures zone { IfOk result (λ zone. AreDigested apex.now.labels records.now zone.items) }
     ensures short { IfOk result (λ zone. HaveShortData zone.items) }
 {
     let mut zone = Vec::new(alloc);
@@ -133,15 +136,21 @@ fn put_in_order(zone: &mut Vec<ZoneRecord<'_>>)
     ensures short { HaveShortData zone.new.items }
 {
     zone.sort_unstable_by(|left, right| zone_order(left, right));
-    zone.dedup_by(|later, kept| place_order(later, kept).is_eq());
+    zone.dedup_by(|later, kept| is_duplicate(later, kept));
 }
 
-/// Returns `true` if the digest covers a record.
+/// Returns `true` if a record is digested: it is in the zone, and the digest does not go into it.
 fn is_digested(apex: &Name, record: &Record) -> bool
-    ensures { result ≡ is_digested apex.now.labels record.now }
+    ensures { IsTrue result ↔ IsDigested apex.now.labels «record».now }
 {
-    let at_apex = record.name.as_name_ref().cmp_name(apex).is_eq();
-    !(at_apex && is_of_zonemd(&record.data))
+    record.name.is_in(apex) && !holds_digest(apex, record)
+}
+
+/// Returns `true` for a record that the digest goes into: one at the apex that is of ZONEMD.
+fn holds_digest(apex: &Name, record: &Record) -> bool
+    ensures { IsTrue result ↔ HoldsDigest apex.now.labels «record».now }
+{
+    is_of_zonemd(&record.data) && record.name.as_name_ref().eq_name(apex)
 }
 
 /// Returns `true` for the data of a ZONEMD record, and of an RRSIG that covers such ones.
@@ -157,6 +166,13 @@ fn covers_zonemd(octets: &[u8]) -> bool
     ensures { result ≡ covers_zonemd octets.now }
 {
     matches!(octets, [0, 63, ..])
+}
+
+/// Returns `true` if records are one: they have the same owner, type and data.
+fn is_duplicate(later: &ZoneRecord<'_>, kept: &ZoneRecord<'_>) -> bool
+    ensures { result ≡ is_duplicate later.now kept.now }
+{
+    place_order(later, kept).is_eq()
 }
 
 /// Compares records by their owner, type and data.
@@ -204,11 +220,18 @@ fn hash_record<H: HashFunction>(hasher: &mut H, item: &ZoneRecord<'_>)
     requires { length item.now.octets ≤ max_message }
     ensures { (m : List ℕ) → H.holds hasher.old m → H.holds hasher.new (m ++ zone_record item.now) }
 {
-    let owner = item.record.name.to_lowercase().unwrap();
+    let owner = canonical_owner(item.record);
     hasher.update(owner.as_wire());
     hasher.update(&u16::to_be_bytes(u16::from(item.record.data.record_type())));
     hasher.update(&u16::to_be_bytes(u16::from(item.record.dns_class())));
     hasher.update(&u32::to_be_bytes(item.record.ttl));
     hasher.update(&u16::to_be_bytes(item.octets.len() as u16));
     hasher.update(item.octets.as_slice());
+}
+
+/// Returns the owner of a record in lower case.
+fn canonical_owner(record: &Record) -> Name
+    ensures { result.labels ≡ lower «record».now.name.labels }
+{
+    record.name.to_lowercase().unwrap()
 }
