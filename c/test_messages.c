@@ -400,7 +400,7 @@ static void packs_messages(void)
 #define SIGNED(flags, count) "\000\000" flags "\000\000\000\000\000\000\000\000" count
     static const char both[] = SIGNED("\200", "\003") SIG_OF("\000\000") SIG_OF("\000\001") A_OF_A;
     EXPECT(packs(BYTES(both), 512, WANTED(SIGNED("\200", "\003") SIG_OF("\000\001") A_OF_A SIG_OF("\000\000")), false));
-    EXPECT(packs(BYTES(both), 43, WANTED(SIGNED("\202", "\001") SIG_OF("\000\000")), true));
+    EXPECT(packs(BYTES(both), 43, WANTED(SIGNED("\200", "\001") SIG_OF("\000\000")), false));
     /* names that are whole in the message are compressed in the copy, and those of an SRV are not */
     EXPECT(packs(BYTES("\000\000\200\000\000\001\000\002\000\000\000\000\001a\000\000\001\000\001"
                        "\001a\000\000\005\000\001" TTL "\000\005\001b\001a\000"
@@ -427,6 +427,27 @@ static void refuses_to_pack(void)
     EXPECT(pack(BYTES(ANSWER("\001", "\005abcde")), 512, sizeof copy, &packed) == DNW_WRONG_DATA_LENGTH);
     EXPECT(pack(BYTES(ANSWER("\002", "\001\100")), 512, sizeof copy, &packed) == DNW_RESERVED_OCTET);
     EXPECT(pack(BYTES(ANSWER("\057", "\003\000\000\000")), 512, sizeof copy, &packed) == DNW_BAD_BITMAP);
+}
+
+/* A request is whole or fails, whatever its operation: half an UPDATE is another UPDATE (RFC 2136, section 3.4.2). So is a transfer. */
+static void packs_whole_requests(void)
+{
+    struct dnw_packed packed;
+#define ZONE_AND(flags, type) "\000\000" flags "\000\000\001\000\000\000\002\000\000" "\001a\000\000" type "\000\001"
+#define ADDED FIRST SECOND
+    static const char update[] = ZONE_AND("\050", "\006") ADDED, query[] = ZONE_AND("\001", "\001") ADDED;
+    static const char transfer[] = ZONE_AND("\200", "\374") ADDED, changes[] = ZONE_AND("\200", "\373") ADDED;
+    static const char response[] = ZONE_AND("\250", "\006") ADDED;
+    EXPECT(packs(BYTES(update), 51, WANTED(update), false) && packs(BYTES(query), 51, WANTED(query), false));
+    EXPECT(packs(BYTES(transfer), 51, WANTED(transfer), false) && packs(BYTES(changes), 51, WANTED(changes), false));
+    for (uint16_t most = 12; most < 51; most++) {
+        EXPECT(pack(BYTES(update), most, sizeof copy, &packed) == DNW_MESSAGE_TOO_LONG);
+        EXPECT(pack(BYTES(query), 512, most, &packed) == DNW_MESSAGE_TOO_LONG);
+        EXPECT(pack(BYTES(transfer), most, sizeof copy, &packed) == DNW_MESSAGE_TOO_LONG);
+        EXPECT(pack(BYTES(changes), most, sizeof copy, &packed) == DNW_MESSAGE_TOO_LONG);
+        if (most >= 19)
+            EXPECT(packs(BYTES(response), most, WANTED("\000\000\252\000\000\001\000\000\000\000\000\000\001a\000\000\006\000\001"), true));
+    }
 }
 
 static uint32_t replies(const uint8_t *request, size_t request_len, const uint8_t *response, size_t response_len, bool *is_reply)
@@ -469,6 +490,7 @@ int main(void)
     reads_fields();
     refuses_fields();
     packs_messages();
+    packs_whole_requests();
     refuses_to_pack();
     tells_replies();
     return 0;

@@ -97,7 +97,10 @@ static void begins(void)
     EXPECT(read.id == 0x1234 && read.is_response && read.op_code == 0 && read.authoritative && !read.truncation);
     EXPECT(read.recursion_desired && read.recursion_available && read.authentic_data && read.checking_disabled);
     EXPECT(read.response_code == 3 && read.end == DNW_HEADER_SIZE);
-    EXPECT(begin(ROOM, 0, 0, DNW_FLAG_TRUNCATION | 5 << 11) == DNW_DONE);
+    for (size_t most = 0; most < DNW_HEADER_SIZE; most++)
+        EXPECT(begin(ROOM, most, 1, 2) == DNW_MESSAGE_TOO_LONG);
+    EXPECT(begin(DNW_HEADER_SIZE - 1, 0, 1, 2) == DNW_NO_ROOM);
+    EXPECT(begin(ROOM, DNW_HEADER_SIZE, 0, DNW_FLAG_TRUNCATION | 5 << 11) == DNW_DONE);
     EXPECT(dnw_message_read(message, writer.len, 0, &read, &fault) == DNW_DONE);
     EXPECT(read.truncation && !read.is_response && read.op_code == 5 && read.end == DNW_HEADER_SIZE);
     EXPECT(question(ROOM, BYTES(ROOT)) == DNW_MESSAGE_TOO_LONG);
@@ -363,6 +366,8 @@ static void begins_replies(void)
     EXPECT(reply(BYTES("\253\315\001\000\000\001\000\000\000\000\000"), ROOM, 0, &edns) == DNW_BAD_ITEM);
     EXPECT(reply(BYTES(ASKS("\201\000", "\000\001\000\000\000\000\000\000") QUESTION), ROOM, 0, &edns) == DNW_BAD_ITEM);
     EXPECT(reply(BYTES(ASKS("\001\000", "\000\001\000\000\000\000\000\000") QUESTION), 32, 0, &edns) == DNW_MESSAGE_TOO_LONG);
+    for (size_t most = 0; most < DNW_HEADER_SIZE; most++)
+        EXPECT(reply(BYTES(ASKS("\001\000", "\000\000\000\000\000\000\000\000")), most, 0, &edns) == DNW_MESSAGE_TOO_LONG);
     EXPECT(reply(BYTES(ASKS("\001\000", "\000\001\000\000\000\000\000\000") QUESTION), 33, 0, &edns) == DNW_DONE);
 }
 
@@ -526,6 +531,113 @@ static void leaves_sets_out(void)
         EXPECT(list(BYTES(""), most, ROOM) == DNW_MESSAGE_TOO_LONG);
 }
 
+/* The records of a set have owners that differ in case, and are there all or not at all (RFC 2181, section 5). */
+static void takes_sets_without_case(void)
+{
+#define UPPER_WEB "\003wEb\007Example\003cOm\000"
+#define MIXED BYTES(ASKED RR("\001", WEB) RR("\001", UPPER_WEB) RR("\001", WEB))
+    EXPECT(list(MIXED, ROOM, ROOM) == DNW_DONE && !result.truncated && message[7] == 3);
+    size_t len = result.len;
+    for (size_t most = 33; most < len; most++)
+        EXPECT(lists(MIXED, most, WANTED(CUT("\000\001\000\000\000\000\000\000") QUESTION), true));
+}
+
+/* Without a word of the caller, TC is set if the response lacks what RFC 2181, section 9, RFC 2308, RFC 4035, section 3.1, and RFC 9471
+   require. */
+static void knows_what_is_required(void)
+{
+#define SOA_RR(octet) octet "\007example\003com\000" FIELDS("\006") "\000\026" "\000\000" "\0\0\0\1\0\0\0\1\0\0\0\1\0\0\0\1\0\0\0\1"
+#define NSEC_RR(octet) octet "\000" FIELDS("\057") "\000\004" "\000\000\001\100"
+#define RRSIG_RR(octet, owner, type) octet owner FIELDS("\056") "\000\024" "\000" type "\010\000\000\000\000\000\000\000\000\002\000\000\000\001\000\007\000s"
+#define COM_NS(octet) octet "\003com\000" FIELDS("\002") "\000\001\000"
+#define ALIAS(octet) octet WWW FIELDS("\005") "\000\001\000"
+    static const struct {
+        const uint8_t *items;
+        size_t len;
+        bool truncated;
+    } cases[] = {
+        /* all answers */
+        {BYTES(ASKED RR("\001", WWW)), true},
+        {BYTES(ASKED RRSIG_RR("\001", WWW, "\001")), true},
+        /* what denies or refers, and its signatures */
+        {BYTES(ASKED SOA_RR("\002")), true},
+        {BYTES(ASKED NSEC_RR("\002")), true},
+        {BYTES(ASKED COM_NS("\002")), true},
+        {BYTES(ASKED RRSIG_RR("\002", ROOT, "\057")), true},
+        {BYTES(ASKED RRSIG_RR("\002", ROOT, "\002")), true},
+        /* no glue without a cut, no addresses but those below it, and no signatures */
+        {BYTES(ASKED RR("\003", WWW)), false},
+        {BYTES(ASKED RRSIG_RR("\003", WWW, "\001")), false},
+        /* by the word of the caller */
+        {BYTES(ASKED RR("\041", WWW)), true},
+        {BYTES(ASKED RR("\201", WWW)), false},
+        {BYTES(ASKED SOA_RR("\042")), true},
+        {BYTES(ASKED SOA_RR("\202")), false},
+        {BYTES(ASKED RR("\043", WWW)), true},
+        {BYTES(ASKED RR("\203", WWW)), false},
+    };
+    for (size_t i = 0; i < sizeof cases / sizeof *cases; i++)
+        EXPECT(list(cases[i].items, cases[i].len, 33, ROOM) == DNW_DONE && result.len == 33 && result.truncated == cases[i].truncated);
+    /* beside an answer that ends in data NS is extra information, with its signatures, and nothing else is */
+#define ASKED_A "\000" WWW "\000\001\000\001" RR("\001", WWW)
+#define PUT_ASKED_A WWW "\000\001\000\001" PUT_A
+#define WITH_NS(type) ASKED_A COM_NS("\002") RRSIG_RR("\002", ROOT, type)
+    EXPECT(lists(BYTES(WITH_NS("\002")), 49, WANTED(HEADER("\000\001\000\001\000\000\000\000") PUT_ASKED_A), false));
+    EXPECT(lists(BYTES(WITH_NS("\057")), 49, WANTED(CUT("\000\001\000\001\000\000\000\000") PUT_ASKED_A), true));
+    EXPECT(lists(BYTES(ASKED_A NSEC_RR("\002")), 49, WANTED(CUT("\000\001\000\001\000\000\000\000") PUT_ASKED_A), true));
+    EXPECT(lists(BYTES(ASKED_A RR("\003", WEB)), 49, WANTED(HEADER("\000\001\000\001\000\000\000\000") PUT_ASKED_A), false));
+    /* an answer of another type is no data, but for ANY */
+    EXPECT(list(BYTES(ASKED ALIAS("\001") SOA_RR("\002")), 46, ROOM) == DNW_DONE && result.len == 46 && result.truncated);
+    EXPECT(list(BYTES(ASKED ALIAS("\001") COM_NS("\002")), 46, ROOM) == DNW_DONE && result.len == 46 && result.truncated);
+    EXPECT(list(BYTES("\000" WWW "\000\377\000\001" ALIAS("\001") COM_NS("\002")), 46, ROOM) == DNW_DONE && result.len == 46 && !result.truncated);
+    /* glue at the cut and below it, but for case, and no signature of it (RFC 9471; RFC 4035, section 3.1.1) */
+#define REFERS ASKED COM_NS("\002")
+    static const struct {
+        const uint8_t *items;
+        size_t len;
+        bool truncated;
+    } glue[] = {
+        {BYTES(REFERS RR("\003", WEB)), true},
+        {BYTES(REFERS RR("\003", "\003COM\000")), true},
+        {BYTES(REFERS "\003" WEB FIELDS("\034") "\000\020\0\0\0\0\0\0\0\0\0\0\0\0\0\0\0\1"), true},
+        {BYTES(REFERS RR("\003", ROOT)), false},
+        {BYTES(REFERS RR("\003", "\004xcom\000")), false},
+        {BYTES(REFERS NSEC_RR("\003")), false},
+        {BYTES(REFERS RRSIG_RR("\003", WEB, "\001")), false},
+    };
+    for (size_t i = 0; i < sizeof glue / sizeof *glue; i++)
+        EXPECT(list(glue[i].items, glue[i].len, 46, ROOM) == DNW_DONE && result.len == 46 && result.truncated == glue[i].truncated);
+    EXPECT(list(BYTES(ASKED_A COM_NS("\002") RR("\003", WEB)), 62, ROOM) == DNW_DONE && result.len == 62 && !result.truncated);
+}
+
+/* A request is never cut, whatever its operation (RFC 2136, section 3.4.2), nor is a transfer (RFC 5936, section 2.2; RFC 1995, section 4).
+   In a response to another operation every record is required. */
+static void never_cuts_requests(void)
+{
+    static const uint16_t flags[] = {0, 0x0100, 0x2000, 0x2800};
+    for (size_t i = 0; i < sizeof flags / sizeof *flags; i++) {
+        for (size_t most = 12; most < 49; most++)
+            for (unsigned octet = 1; octet < 256; octet = octet == 3 ? 129 : octet == 131 ? 256 : octet + 1) {
+                uint8_t items[] = ASKED RR("\001", WWW);
+                items[sizeof ASKED - 1] = (uint8_t)octet;
+                struct dnw_packed found = {7, true};
+                EXPECT(dnw_message_write(items, sizeof items - 1, most, 1, flags[i], message, ROOM, &found) == DNW_MESSAGE_TOO_LONG);
+                EXPECT(found.len == 7 && found.truncated);
+            }
+        if (flags[i] & 0x7800) {
+            EXPECT(dnw_message_write(BYTES(ASKED RR("\003", ROOT)), 33, 1, flags[i] | 0x8000, message, ROOM, &result) == DNW_DONE);
+            EXPECT(result.len == 33 && result.truncated);
+        }
+    }
+#define TRANSFER(type) BYTES("\000" ROOT "\000" type "\000\001" RR("\001", ROOT) RR("\003", ROOT))
+    for (size_t most = 12; most < 17 + 15 + 15; most++) {
+        EXPECT(list(TRANSFER("\374"), most, ROOM) == DNW_MESSAGE_TOO_LONG);
+        EXPECT(list(TRANSFER("\373"), most, ROOM) == DNW_MESSAGE_TOO_LONG);
+        EXPECT(list(TRANSFER("\001"), most, ROOM) == (most < 17 ? DNW_MESSAGE_TOO_LONG : DNW_DONE));
+    }
+    EXPECT(list(TRANSFER("\374"), 47, ROOM) == DNW_DONE && result.len == 47 && !result.truncated);
+}
+
 static void refuses_lists(void)
 {
     EXPECT(list(BYTES("\004"), ROOM, ROOM) == DNW_BAD_ITEM);
@@ -534,7 +646,7 @@ static void refuses_lists(void)
     EXPECT(list(BYTES("\000\100\000\001\000\001"), ROOM, ROOM) == DNW_BAD_ITEM);
     for (unsigned octet = 4; octet < 256; octet++) {
         uint8_t items[] = {(uint8_t)octet, 0, 255, 0, 0, 1, 0, 0, 0, 0, 0, 0};
-        bool is_known = octet == 67 || (octet >= 129 && octet <= 131);
+        bool is_known = octet == 67 || (octet >= 33 && octet <= 35) || (octet >= 129 && octet <= 131);
         EXPECT(list(items, sizeof items, ROOM, ROOM) == (is_known ? DNW_DONE : DNW_BAD_ITEM));
         EXPECT(list(items, sizeof items - 1, ROOM, ROOM) == DNW_BAD_ITEM);
     }
@@ -569,6 +681,9 @@ int main(void)
     ends_at_65535_octets();
     writes_lists();
     leaves_sets_out();
+    takes_sets_without_case();
+    knows_what_is_required();
+    never_cuts_requests();
     refuses_lists();
     return 0;
 }

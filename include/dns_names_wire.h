@@ -321,8 +321,8 @@ struct dnw_packed {
 /* Writes a whole message again, with its names compressed, in at most `max_size` octets, and no more than the buffer has,
    and stores it. A server sends the copy if a response is longer than the receiver accepts. The copy has the header of the
    message, with its own counts, its questions, and its records, in the same sections and order. A set of records that has
-   no room is left out whole, and so are the later ones of its section (RFC 2181, section 5). If one is left out, TC is set
-   (RFC 2181, section 9), unless the message is a response with answers, and it is of a later section. An OPT record and a
+   no room is left out whole, and so are the later ones of its section (RFC 2181, section 5). If a record is left out that is
+   required, TC is set: dnw_message_write says which are, and which messages are never cut. An OPT record and a
    signature of the message among the additional records are never left out, since octets are held back for them, and come
    last. TSIG signs a message (RFC 8945), and SIG(0), which is a SIG that covers the type 0 (RFC 2931, section 3); other SIG
    records are as any. Names in the data of types of RFC 1035 are compressed too, and others are not (RFC 3597, section 4).
@@ -332,8 +332,8 @@ struct dnw_packed {
    is not valid. If the data of a record are not valid, it fails as dnw_field_next does at the first wrong field. It
    fails with DNW_TOO_MANY_POINTERS if the names in the data of the records, each read up to the first wrong field, follow
    more than DNW_MAX_POINTERS in all; with DNW_NO_ROOM if the buffer has no room for a header; with DNW_MESSAGE_TOO_LONG if
-   the header, the questions and the records that are never left out have no room; and with DNW_NO_MEMORY. If it fails,
-   octets of the buffer may have changed. */
+   the header, the questions and the records that are never left out have no room, or any record of a message that is never
+   cut; and with DNW_NO_MEMORY. If it fails, octets of the buffer may have changed. */
 uint32_t dnw_message_pack(const uint8_t *message, size_t message_len, uint16_t max_size, uint8_t *packed, size_t packed_size,
                           struct dnw_packed *result);
 
@@ -840,10 +840,11 @@ uint32_t dnw_nsec3_covers(const uint8_t *own, size_t own_len, const uint8_t *nex
                           size_t hash_len, bool *covers);
 
 /* Stores the digest of a zone that a ZONEMD record has, by the scheme SIMPLE (RFC 8976, section 3.3.1), and its length
-   in `len`. `apex` is the wire form of the zone's apex. `records` are the records of the zone, one after another in any
-   order, all of one class, glue records too. Records that are the same but for the TTL count once, with the least TTL.
-   The ZONEMD records at the apex, and the RRSIG records there that cover ZONEMD, are left out, so they may be given.
-   Hash algorithm 1 is SHA-384, and 2 is SHA-512.
+   in `len`. `apex` is the wire form of the zone's apex. `records` are records of one class, one after another in any
+   order. Those of the zone are digested, glue and what is below a delegation too; those whose owner is neither the apex
+   nor below it are left out. Records that are the same but for the TTL count once, with the least TTL. The ZONEMD records
+   at the apex, and the RRSIG records there that cover ZONEMD, are left out, so they may be given. Hash algorithm 1 is
+   SHA-384, and 2 is SHA-512.
 
    If the apex is not a wire form, it fails as dnw_name_compare. Otherwise it fails as dnw_record_read for the first
    record that is not valid, but never for the room of the owner, and as dnw_field_next if its data are not valid;
@@ -884,7 +885,7 @@ struct dnw_writer {
 };
 
 /* Begins a message of at most `max_size` octets in a buffer: stores a header with this id, these flags, and counts of 0.
-   It fails with DNW_NO_ROOM if `message_size` is less than DNW_HEADER_SIZE.
+   It fails with DNW_NO_ROOM if `message_size` is less than DNW_HEADER_SIZE, and with DNW_MESSAGE_TOO_LONG if `max_size` is.
 
    The functions below add an item at the end of the message and count it in the header. An item is added whole or not at
    all: a function that fails leaves the writer and the `len` octets of the message unchanged, but for TC where it says so.
@@ -978,8 +979,9 @@ enum dnw_list_item {
     DNW_LIST_ANSWER = 1,
     DNW_LIST_AUTHORITY = 2,
     DNW_LIST_ADDITIONAL = 3,
-    DNW_LIST_LAST = 0x40,    /* with DNW_LIST_ADDITIONAL: an item that is never left out */
-    DNW_LIST_OPTIONAL = 0x80 /* a record that may be left out without TC */
+    DNW_LIST_REQUIRED = 0x20, /* a record that is not left out without TC, whatever the RFCs say */
+    DNW_LIST_LAST = 0x40,     /* with DNW_LIST_ADDITIONAL: an item that is never left out */
+    DNW_LIST_OPTIONAL = 0x80  /* a record that may be left out without TC, whatever the RFCs say */
 };
 
 /* Writes a message of a list of items, in at most `max_size` octets and `message_size`, and stores it. An item is an octet
@@ -988,14 +990,22 @@ enum dnw_list_item {
    with DNW_LIST_LAST are the last of the list: an OPT record (whose class is the payload size and whose TTL has the high
    bits of the response code, the version and DO), then TSIG or SIG(0). Their octets are held back from the start.
 
-   Successive records with the same octet, owner, type and class are a set, and are written whole or not at all. If a set
-   does not fit, it and the later ones of its section are left out, and TC is set if one of their records is not
-   DNW_LIST_OPTIONAL. `result` has the length of the message and its TC bit. Names of questions and owners may be
+   Successive records with the same octet, owner (ignoring case), type and class are a set, and are written whole or not at
+   all (RFC 2181, section 5). If a set does not fit, it and the later ones of its section are left out, and TC is set if one
+   of their records is required. `result` has the length of the message and its TC bit. Names of questions and owners may be
    compressed: they are read with the list as their message. It does not allocate.
 
+   A request (QR is clear in `flags`) and a response to a question for AXFR or IXFR are never cut. Otherwise these are
+   required (RFC 2181, section 9), unless the octet says otherwise:
+   - all answers, and every record if the operation is not QUERY;
+   - all authorities, as SOA (RFC 2308), NSEC and NSEC3, DS, and their signatures (RFC 4035, section 3.1); but not NS and
+     its signatures if there is an answer of the type that the first question asks for;
+   - additional records of type A and AAAA if there is no such answer and their owner is that of the first NS of the Authority
+     section or below it (RFC 9471).
+
    It fails with DNW_BAD_ITEM if the list is not one of items in this order; with DNW_NO_ROOM if `message_size` is less
-   than DNW_HEADER_SIZE; with DNW_MESSAGE_TOO_LONG if the header, a question or an item with DNW_LIST_LAST does not fit;
-   and with DNW_BAD_DATA if the data of a record are not those of its type, or with DNW_DUPLICATE_EDNS if it is a second
+   than DNW_HEADER_SIZE; with DNW_MESSAGE_TOO_LONG if the header, a question or an item with DNW_LIST_LAST does not fit, or
+   any record of a message that is never cut; and with DNW_BAD_DATA if the data of a record are not those of its type, or with DNW_DUPLICATE_EDNS if it is a second
    OPT record, unless it is left out since an earlier set of its section was. Then `result` is unchanged, and the buffer
    may hold anything. */
 uint32_t dnw_message_write(const uint8_t *items, size_t items_len, size_t max_size, uint16_t id, uint16_t flags,

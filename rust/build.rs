@@ -13,8 +13,12 @@ use std::process::{exit, Command};
 
 const ARCHIVE: &str = "libdns_names_wire.a";
 
+/// The first Rust 1.x whose `core` has `net` and `error`.
+const CORE_HAS_ERROR: u32 = 81;
+
 fn main() {
     println!("cargo:rerun-if-env-changed=DNW_LIB_DIR");
+    set_core_alone();
     let folder = is_linux().and_then(|()| folder()).and_then(fits_target).unwrap_or_else(|problem| {
         eprintln!("dns-names-wire: {problem}");
         exit(1);
@@ -22,6 +26,23 @@ fn main() {
     println!("cargo:rerun-if-changed={}", folder.join(ARCHIVE).display());
     println!("cargo:rustc-link-search=native={}", folder.display());
     println!("cargo:rustc-link-lib=static=dns_names_wire");
+}
+
+/// Sets `core_alone` if the crate takes nothing from `std`: the feature is off, and `core` has what the crate needs.
+fn set_core_alone() {
+    if rust_version() < Some(CORE_HAS_ERROR) {
+        return;
+    }
+    println!("cargo:rustc-check-cfg=cfg(core_alone)");
+    if env::var_os("CARGO_FEATURE_STD").is_none() {
+        println!("cargo:rustc-cfg=core_alone");
+    }
+}
+
+/// Returns the x of Rust 1.x.
+fn rust_version() -> Option<u32> {
+    let said = Command::new(env::var_os("RUSTC")?).arg("--version").output().ok()?;
+    String::from_utf8(said.stdout).ok()?.split('.').nth(1)?.parse().ok()
 }
 
 fn folder() -> Result<PathBuf, String> {

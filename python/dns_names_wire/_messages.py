@@ -43,7 +43,7 @@ _HEADER = struct.Struct("!HHHHHH")
 _head_of: Any = struct.Struct("!HH").unpack_from
 _HEADER_SIZE = 12
 # The first octets of the items of a list, by enum dnw_list_item in dns_names_wire.h.
-_ANSWER, _AUTHORITY, _OPTIONAL_AUTHORITY, _GLUE, _OPTIONAL_ADDITIONAL, _LAST = b"\1", b"\2", b"\x82", b"\3", b"\x83", b"\x43"
+_ANSWER, _AUTHORITY, _ADDITIONAL, _REQUIRED, _LAST = b"\1", b"\2", b"\3", b"\x23", b"\x43"
 # The type that a SIG covers if it signs a message, and not records: it is a SIG(0) then (RFC 2931, section 3).
 _NO_TYPE = b"\0\0"
 _MOST = 65535
@@ -244,11 +244,11 @@ class Message:
         additionals: Iterable[Record] = (),
         edns: Optional[Edns] = None,
         *,
-        glue: Iterable[Record] = (),
+        required: Iterable[Record] = (),
     ) -> "Message":
         """Makes a message. The EDNS fields become the last record of the Additional section. A response code above 15
-        needs EDNS, so the message then always has an OPT record (RFC 6891, section 6.1.3). `glue` is records of the
-        Additional section that the receiver needs, before the others (RFC 9471).
+        needs EDNS, so the message then always has an OPT record (RFC 6891, section 6.1.3). `required` is records of the
+        Additional section, before the others, that are not left out without TC. Glue below a cut never is (RFC 9471).
 
         Raises `ValueError` if a section has more than 65535 items or a number is out of bounds, and `DataTooLong` if
         the options have more than 65535 octets.
@@ -262,7 +262,7 @@ class Message:
         if edns is None and code > 15:
             edns = Edns()
         number, asked = _checks.number("id", header.id, _MOST), tuple(questions)
-        sections = tuple(answers), tuple(authorities), tuple(glue), tuple(additionals)
+        sections = tuple(answers), tuple(authorities), tuple(required), tuple(additionals)
         last = () if edns is None else (edns,)
         for what, count in zip(_PARTS, (asked, sections[0], sections[1], (*sections[2], *sections[3], *last))):
             _checks.number(f"the number of {what}", len(count), _MOST)
@@ -270,7 +270,7 @@ class Message:
         own = None if edns is None else edns._record(code)
         made = _new_made(_Made)
         made._head, made._asked, made._opt, made._questions = (number, header._flags()), items, own, asked
-        made._answers, made._authorities, made._glue, made._others = sections
+        made._answers, made._authorities, made._required, made._others = sections
         return made
 
     @classmethod
@@ -306,7 +306,7 @@ class Message:
         made = _new_made(_Made)
         made._head, made._asked, made._questions = _head_of(head), b"\0" + head[12:], (question,)
         made._opt = None if edns is None else edns._record(0)
-        made._answers = made._authorities = made._glue = made._others = ()
+        made._answers = made._authorities = made._required = made._others = ()
         return made
 
     def reply(
@@ -315,7 +315,7 @@ class Message:
         authorities: Iterable[Record] = (),
         additionals: Iterable[Record] = (),
         *,
-        glue: Iterable[Record] = (),
+        required: Iterable[Record] = (),
         authoritative: bool = False,
         recursion_available: bool = False,
         authentic_data: bool = False,
@@ -324,7 +324,7 @@ class Message:
     ) -> "Message":
         """Makes a reply to this request. It repeats the id, the operation code, RD, CD and the question of the request
         (RFC 1035, section 4.1.1; RFC 4035, section 3.2.2). It has EDNS if the request has (RFC 6891, section 6.1.1):
-        `edns`, or the same DO, version 0, and 1232 octets as the largest message that is accepted. `glue` is as in
+        `edns`, or the same DO, version 0, and 1232 octets as the largest message that is accepted. `required` is as in
         `build`.
 
         The default response code is NOERROR. It is always BADVERS if the version of the request's EDNS is above 0 (RFC
@@ -363,7 +363,7 @@ class Message:
         made = _new_made(_Made)
         made._head, made._asked, made._opt = _head_of(head), b"\0" + head[12:] if len(head) > 12 else b"", opt
         made._answers, made._authorities = tuple(answers), tuple(authorities)
-        made._glue, made._others = tuple(glue), tuple(additionals)
+        made._required, made._others = tuple(required), tuple(additionals)
         return made
 
     def is_reply_to(self, request: "Message") -> bool:
@@ -383,12 +383,12 @@ class Message:
         `max_payload` of the request with EDNS, and 65535 over TCP.
 
         Sets of records that do not fit are left out whole (RFC 2181, section 5), with the later ones of their section. TC
-        is set if one is left out that the receiver needs (section 9): an answer, a record of the Authority section if
-        there are no answers, or glue. The questions and the OPT record are never left out; nor is a TSIG or SIG(0), which
-        comes last.
+        is set if one is left out that the receiver needs (section 9): an answer; a record of the Authority section, but for
+        NS beside an answer of the type that was asked for; or glue below a cut. The questions and the OPT record are never
+        left out; nor is a TSIG or SIG(0), which comes last. Nothing is left out of a request, or of a transfer.
 
         Raises `BadData` or as `Record.fields` if the data of a record are not valid, as `edns` if there is an OPT record in
-        `additionals`, and `MessageTooLong` if the header, the questions and the OPT record have more than `max_size` octets.
+        `additionals`, and `MessageTooLong` if what is never left out has more than `max_size` octets.
 
         >>> record = Record.from_text("a. 60 IN TXT " + " ".join(["abcdefgh"] * 100))
         >>> reply = Message.query("a.", RecordType.TXT, id=7).reply([record])
@@ -573,12 +573,12 @@ class _Read(Message):
 class _Made(Message):
     """A message that was made. `_asked` is its questions, as items of the list that is written."""
 
-    __slots__ = ("_asked", "_answers", "_authorities", "_glue", "_others", "_opt", "_questions", "_wire")
+    __slots__ = ("_asked", "_answers", "_authorities", "_required", "_others", "_opt", "_questions", "_wire")
 
     _asked: bytes
     _answers: Tuple[Record, ...]
     _authorities: Tuple[Record, ...]
-    _glue: Tuple[Record, ...]
+    _required: Tuple[Record, ...]
     _others: Tuple[Record, ...]
     _opt: Optional[bytes]
     # What is made when it is first used.
@@ -614,7 +614,7 @@ class _Made(Message):
     @property
     def additionals(self) -> Tuple[Record, ...]:
         own = () if self._opt is None else (Record._made(self._opt),)
-        return (*self._glue, *self._others, *own)
+        return (*self._required, *self._others, *own)
 
     def to_wire(self, max_size: int = 512) -> bytes:
         if type(max_size) is not int or not 0 <= max_size <= _MOST:
@@ -624,17 +624,16 @@ class _Made(Message):
         for record in self._answers:
             add(_ANSWER)
             add(record._message if record._is_whole else record.to_wire())
-        mark = _OPTIONAL_AUTHORITY if self._answers else _AUTHORITY
         for record in self._authorities:
-            add(mark)
+            add(_AUTHORITY)
             add(record._message if record._is_whole else record.to_wire())
-        for record in self._glue:
-            add(_GLUE)
+        for record in self._required:
+            add(_REQUIRED)
             add(record._message if record._is_whole else record.to_wire())
         others = self._others
         for record in others:
             if not _is_last(record):
-                add(_OPTIONAL_ADDITIONAL)
+                add(_ADDITIONAL)
                 add(record._message if record._is_whole else record.to_wire())
         if self._opt is not None:
             add(_LAST)

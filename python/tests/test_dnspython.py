@@ -203,8 +203,8 @@ class BesideDnspython(unittest.TestCase):
                     if size == 65535:
                         self.assertEqual(found, wanted)
                     self.assertEqual(len(found), len(plain))
-                # the records of the Authority section are needed if there are no answers
-                needed = (read.answer, sections[0]) if sections[0] else (read.authority, sections[1])
-                cut = len(needed[0]) < len(needed[1])
+                # All answers and authorities are needed (RFC 2181, section 9); no owner here is that of a name server (RFC
+                # 9471), and no answer of the type that is asked for.
+                cut = len(read.answer) < len(sections[0]) or len(read.authority) < len(sections[1])
                 self.assertEqual(bool(read.flags & dns.flags.TC), cut)
 

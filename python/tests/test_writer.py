@@ -195,15 +195,64 @@ class Lists(unittest.TestCase):
         negative = Record("a.", 60, SOA("b.", "c.", 1, 2, 3, 4, 5))
         for reply, is_cut in [
             (query.reply([text, extra]), True),
-            (query.reply([text], [extra]), False),
+            (query.reply([text], [extra]), True),
             (query.reply([text], [], [extra]), False),
-            (query.reply([text], [], glue=[extra]), True),
+            (query.reply([text], [], required=[extra]), True),
             (query.reply([], [negative, extra]), True),
             (query.reply([], [negative], [extra]), False),
         ]:
             read = Message.from_wire(reply.to_wire(300))
             self.assertEqual((read.header.truncation, sum(counts(read.wire)[1:])), (is_cut, 1), reply)
             self.assertFalse(Message.from_wire(reply.to_wire(1200)).header.truncation)
+
+    def test_what_is_left_out_is_not_missing(self) -> None:
+        query = make_query("b.a.", "A", id=7)
+
+        def rr(line: str) -> Record:
+            return Record.from_text(line)
+
+        def signed(owner: str, covered: str) -> Record:
+            return rr(f"{owner} 60 RRSIG {covered} 8 2 60 20300101000000 20200101000000 1 a. AAAA")
+
+        soa, ns, alias = rr("a. 60 SOA a. a. 1 2 3 4 5"), rr("a. 60 NS ns.a."), rr("b.a. 60 CNAME x.a.")
+        address, glue, nsec = rr("b.a. 60 A 192.0.2.1"), rr("NS.A. 60 AAAA 2001:db8::1"), rr("c.a. 60 NSEC d.a. A RRSIG NSEC")
+        for reply, is_required in [
+            # A wildcard's answer has to have its proof (RFC 4035, sections 3.1.1 and 3.1.3.3).
+            (query.reply([address], [nsec, signed("c.a.", "NSEC")]), True),
+            (query.reply([address], [signed("c.a.", "NSEC"), nsec]), True),
+            # The name that an alias stands for does not exist (RFC 2308, section 2.1).
+            (query.reply([alias], [soa]), True),
+            (query.reply([], [soa]), True),
+            # A referral needs its servers, and their addresses at the cut or below it, but no signatures of these (RFC
+            # 9471; RFC 4035, section 3.1.1).
+            (query.reply([], [ns]), True),
+            (query.reply([], [ns], [glue]), True),
+            (query.reply([], [ns], [signed("ns.a.", "AAAA")]), False),
+            # Beside data NS is extra information (RFC 2181, section 9).
+            (query.reply([address], [ns, signed("a.", "NS")], [glue]), False),
+            (query.reply([address], [], [glue]), False),
+        ]:
+            whole = reply.to_wire(65535)
+            cut = reply.to_wire(len(whole) - 1)
+            self.assertLess(len(cut), len(whole))
+            self.assertEqual(Message.from_wire(cut).header.truncation, is_required, reply)
+            self.assertEqual(Message.from_wire(whole).to_wire(len(whole) - 1), cut)
+            self.assertFalse(Message.from_wire(whole).header.truncation)
+
+    def test_a_request_is_never_cut(self) -> None:
+        # half an UPDATE is another UPDATE (RFC 2136, section 3.4.2)
+        added = [Record(f"host-{number}.example.", 60, A(f"192.0.2.{number}")) for number in range(30)]
+        used = Record("a.example.", 0, Unknown(255, b""), RecordClass.ANY)
+        zone = [Question("example.", "SOA")]
+        update = Message.build(Header(7, op_code=OpCode.UPDATE), zone, [used], added)
+        transfer = Message.build(Header(7, is_response=True), [Question("example.", "AXFR")], added)
+        for message in [update, transfer]:
+            whole = message.to_wire(65535)
+            self.assertGreater(len(whole), 512)
+            for size in [12, 25, 100, 512, len(whole) - 1]:
+                self.assertRaises(dnw.MessageTooLong, message.to_wire, size)
+                self.assertRaises(dnw.MessageTooLong, Message.from_wire(whole).to_wire, size)
+            self.assertEqual(Message.from_wire(whole).to_wire(len(whole)), whole)
 
     def test_a_set_is_not_cut(self) -> None:
         query = make_query("a.", "A", id=7)

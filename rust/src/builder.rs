@@ -4,7 +4,7 @@ use crate::error::{Error, ErrorKind, Section};
 use crate::ffi::{self, HEADER_SIZE};
 use crate::header::{Header, ResponseCode};
 use crate::message::{Edns, Message};
-use crate::name_ref::{pass_name, NameRef};
+use crate::name_ref::NameRef;
 use crate::octets::{Room, Sink};
 use crate::rdata::RData;
 use crate::record_buf::{put_record, RecordBuf};
@@ -21,11 +21,10 @@ const AUTHORITIES: u8 = 2;
 const ADDITIONALS: u8 = 3;
 const SECTIONS: usize = 4;
 
-/// What is joined to the section of an item in the list of `dnw_message_write`: it is last, or optional.
+/// What is joined to the section of an item in the list of `dnw_message_write`: it is last, or required or optional.
 const LAST: u8 = 0x40;
+const REQUIRED: u8 = 0x20;
 const OPTIONAL: u8 = 0x80;
-/// An item is optional if there are answers. The C library does not see this.
-const BESIDE_ANSWERS: u8 = 0x20;
 
 /// The initial capacity, in octets.
 const USUAL_SIZE: usize = 512;
@@ -305,7 +304,7 @@ impl MessageBuilder {
         ttl: u32,
         data: impl Into<RData<'d>>,
     ) -> Result<&mut Self, Error> {
-        self.data(ANSWERS, 0, name.into(), ttl, &data.into())
+        self.data(ANSWERS, name.into(), ttl, &data.into())
     }
 
     /// Adds a record of class IN to the Authority section.
@@ -329,7 +328,7 @@ impl MessageBuilder {
         ttl: u32,
         data: impl Into<RData<'d>>,
     ) -> Result<&mut Self, Error> {
-        self.data(AUTHORITIES, BESIDE_ANSWERS, name.into(), ttl, &data.into())
+        self.data(AUTHORITIES, name.into(), ttl, &data.into())
     }
 
     /// Adds a record of class IN to the Additional section.
@@ -352,7 +351,7 @@ impl MessageBuilder {
         ttl: u32,
         data: impl Into<RData<'d>>,
     ) -> Result<&mut Self, Error> {
-        self.data(ADDITIONALS, OPTIONAL, name.into(), ttl, &data.into())
+        self.data(ADDITIONALS, name.into(), ttl, &data.into())
     }
 
     /// Adds records to the Answer section.
@@ -366,7 +365,7 @@ impl MessageBuilder {
     /// # Ok::<(), dns_names_wire::Error>(())
     /// ```
     pub fn answers<R: Borrow<RecordBuf>>(&mut self, records: impl IntoIterator<Item = R>) -> &mut Self {
-        self.all(ANSWERS, 0, records)
+        self.all(ANSWERS, ANSWERS, records)
     }
 
     /// Adds records to the Authority section.
@@ -380,7 +379,7 @@ impl MessageBuilder {
     /// # Ok::<(), dns_names_wire::Error>(())
     /// ```
     pub fn authorities<R: Borrow<RecordBuf>>(&mut self, records: impl IntoIterator<Item = R>) -> &mut Self {
-        self.all(AUTHORITIES, BESIDE_ANSWERS, records)
+        self.all(AUTHORITIES, AUTHORITIES, records)
     }
 
     /// Adds records to the Additional section.
@@ -394,22 +393,22 @@ impl MessageBuilder {
     /// # Ok::<(), dns_names_wire::Error>(())
     /// ```
     pub fn additionals<R: Borrow<RecordBuf>>(&mut self, records: impl IntoIterator<Item = R>) -> &mut Self {
-        self.all(ADDITIONALS, OPTIONAL, records)
+        self.all(ADDITIONALS, ADDITIONALS, records)
     }
 
     /// Adds records to the Answer, Authority or Additional section, and says whether the message is truncated without
-    /// them. In another section, [`finish`](MessageBuilder::finish) fails with `BadItem`.
+    /// them, whatever the RFCs say. In another section, [`finish`](MessageBuilder::finish) fails with `BadItem`.
     ///
-    /// A referral needs the addresses of name servers that are below the zone (RFC 9471):
+    /// A referral needs the addresses of name servers that are below the zone (RFC 9471). A server may need others too:
     ///
     /// ```
     /// use dns_names_wire::{Message, MessageBuilder, Name, Need, RecordBuf, RecordType, Section};
     ///
-    /// let records = ["a. 60 NS ns.a.", "ns.a. 60 A 192.0.2.1"].map(|line| line.parse::<RecordBuf>().unwrap());
+    /// let records = ["a. 60 NS ns.b.", "ns.b. 60 A 192.0.2.1"].map(|line| line.parse::<RecordBuf>().unwrap());
     /// let query = MessageBuilder::query(7, &"b.a.".parse::<Name>()?, RecordType::A).finish(512)?;
     /// let mut reply = MessageBuilder::reply_to(&Message::read(&query)?);
     /// reply.authorities(&records[..1]).records(Section::Additionals, Need::Required, &records[1..]);
-    /// assert!(Message::read(&reply.finish(40)?)?.header().truncation);
+    /// assert!(Message::read(&reply.finish(45)?)?.header().truncation);
     /// # Ok::<(), dns_names_wire::Error>(())
     /// ```
     pub fn records<R: Borrow<RecordBuf>>(
@@ -418,13 +417,17 @@ impl MessageBuilder {
         need: Need,
         records: impl IntoIterator<Item = R>,
     ) -> &mut Self {
-        match Self::place(section, need) {
-            Ok((section, need)) => self.all(section, need, records),
-            Err(error) => {
-                self.failure = Some(error);
-                self
+        let section = match section {
+            Section::Answers => ANSWERS,
+            Section::Authorities => AUTHORITIES,
+            Section::Additionals => ADDITIONALS,
+            _ => {
+                self.failure = Some(ErrorKind::BadItem.into());
+                return self;
             }
-        }
+        };
+        let need = if need == Need::Optional { OPTIONAL } else { REQUIRED };
+        self.all(section, section | need, records)
     }
 
     /// As [`records`](MessageBuilder::records), with the records of a set.
@@ -463,21 +466,23 @@ impl MessageBuilder {
     ///
     /// Successive records of a section with the same owner, type and class are a set, which is written whole or left out
     /// (RFC 2181, section 5). If a set does not fit, it and the later ones of its section are left out. TC is set if one
-    /// of them is required (RFC 2181, section 9): answers are, and authorities if there are no answers, but additional
-    /// records are not; [`records`](MessageBuilder::records) says otherwise. The questions, the OPT record and the last
-    /// record are never left out.
+    /// of them is required (RFC 2181, section 9): all answers are; all authorities, but for NS beside an answer of the type
+    /// that was asked for; and the addresses of name servers below a cut (RFC 9471). [`records`](MessageBuilder::records)
+    /// says otherwise. The questions, the OPT record and the last record are never left out, and nothing is left out of a
+    /// request, or of a transfer.
     ///
     /// # Errors
     ///
-    /// `NoRoom` if `max_size` is less than 12; `MessageTooLong` if there is no room for a question, the OPT record or the
-    /// last record; `BadData` if the data of a record are not those of its type; or `BadItem` if this is a reply to a
-    /// response, or if records were added to no section of records.
+    /// `NoRoom` if `max_size` is less than 12; `MessageTooLong` if there is no room for what is never left out; `BadData`
+    /// if the data of a record are not those of its type; or `BadItem` if this is a reply to a response, or if records
+    /// were added to no section of records.
     ///
     /// ```
     /// use dns_names_wire::{ErrorKind, Message, MessageBuilder, Name, RecordType, Texts, RData};
     ///
     /// let name: Name = "a.".parse()?;
-    /// let mut message = MessageBuilder::query(7, &name, RecordType::TXT);
+    /// let query = MessageBuilder::query(7, &name, RecordType::TXT).finish(512)?;
+    /// let mut message = MessageBuilder::reply_to(&Message::read(&query)?);
     /// let texts = Texts::to_wire([[b'a'; 255], [b'b'; 255]])?;
     /// message.answer(&name, 60, RData::TXT(Texts::from_wire(&texts)?))?;
     /// let (cut, whole) = (message.finish(512)?, message.finish(65535)?);
@@ -519,7 +524,6 @@ impl MessageBuilder {
     /// Puts the whole list of items.
     fn put_list(&self, list: &mut Room) -> Result<(), Error> {
         list.extend_from_slice(&self.items);
-        self.mark_authorities(list.as_mut_slice());
         let code = u16::from(self.header.response_code);
         match &self.edns {
             Some(edns) => edns.put(code, list)?,
@@ -533,40 +537,9 @@ impl MessageBuilder {
         Ok(())
     }
 
-    /// Marks the authorities that are optional beside answers.
-    fn mark_authorities(&self, list: &mut [u8]) {
-        let [questions, answers, authorities, _] = self.ends;
-        let need = if answers > questions { OPTIONAL } else { 0 };
-        let mut at = answers;
-        while at < authorities {
-            if list[at] & BESIDE_ANSWERS != 0 {
-                list[at] = AUTHORITIES | need;
-            }
-            at = pass_record(list, at + 1).unwrap_or(authorities);
-        }
-    }
-
-    /// Returns the number of a section of records, and what is joined to it.
-    fn place(section: Section, need: Need) -> Result<(u8, u8), Error> {
-        let need = if need == Need::Optional { OPTIONAL } else { 0 };
-        match section {
-            Section::Answers => Ok((ANSWERS, need)),
-            Section::Authorities => Ok((AUTHORITIES, need)),
-            Section::Additionals => Ok((ADDITIONALS, need)),
-            _ => Err(ErrorKind::BadItem.into()),
-        }
-    }
-
-    fn data(
-        &mut self,
-        section: u8,
-        need: u8,
-        name: NameRef<'_>,
-        ttl: u32,
-        data: &RData<'_>,
-    ) -> Result<&mut Self, Error> {
+    fn data(&mut self, section: u8, name: NameRef<'_>, ttl: u32, data: &RData<'_>) -> Result<&mut Self, Error> {
         let start = self.items.len();
-        self.items.push(section | need);
+        self.items.push(section);
         match put_record(&mut self.items, name, (data.record_type(), Class::IN, ttl), |octets| data.put(octets)) {
             Ok(_) => self.added(section, start),
             Err(error) => {
@@ -577,10 +550,10 @@ impl MessageBuilder {
         Ok(self)
     }
 
-    fn all<R: Borrow<RecordBuf>>(&mut self, section: u8, need: u8, records: impl IntoIterator<Item = R>) -> &mut Self {
+    fn all<R: Borrow<RecordBuf>>(&mut self, section: u8, octet: u8, records: impl IntoIterator<Item = R>) -> &mut Self {
         for record in records {
             let start = self.items.len();
-            self.items.push(section | need);
+            self.items.push(octet);
             self.items.extend_from_slice(record.borrow().as_wire());
             self.added(section, start);
         }
@@ -607,13 +580,6 @@ impl fmt::Debug for MessageBuilder {
             Err(error) => tuple.field(&error).finish(),
         }
     }
-}
-
-/// Returns the offset after a record without compression.
-fn pass_record(list: &[u8], start: usize) -> Option<usize> {
-    let (fixed, _) = pass_name(list, start)?;
-    let len = list.get(fixed + 8..fixed + 10)?;
-    Some(fixed + 10 + usize::from(u16::from_be_bytes([len[0], len[1]])))
 }
 
 impl Opt {

@@ -459,13 +459,8 @@ impl fmt::Display for TextRule {
     }
 }
 
-/// It has no source: [`kind`](Error::kind) and [`offset`](Error::offset) are all that is known. Without the feature `std`, it
-/// is `core::error::Error`.
-#[cfg(feature = "std")]
-impl std::error::Error for Error {}
-
-#[cfg(not(feature = "std"))]
-impl core::error::Error for Error {}
+/// It has no source: [`kind`](Error::kind) and [`offset`](Error::offset) are all that is known.
+impl crate::StdError for Error {}
 
 /// Returns an error of kind `InvalidData`, or `OutOfMemory` for `NoMemory`, with this error inside.
 ///

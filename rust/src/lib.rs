@@ -42,12 +42,13 @@
 //! All types are `Send` and `Sync`. A call that fails returns an [`Error`], which has what is wrong and where. No input
 //! makes a call panic.
 //!
-//! The feature `std` is on by default. Without it, the crate needs Rust 1.81, `core`, `alloc` and the system's C
-//! library, does not make a `std::io::Error`, and has no `ZoneFile` and no `ZoneStream`.
+//! The feature `std` is on by default. Without it, the crate does not make a `std::io::Error`, has no `ZoneFile` and no
+//! `ZoneStream`, and needs `core`, `alloc` and the system's C library alone. Before Rust 1.81, whose `core` has addresses
+//! and `Error`, it takes these from `std`.
 //!
 //! `build.rs` takes the archive from the folder that the environment variable `DNW_LIB_DIR` names, or from `lib` in
 //! this crate. In a checkout of the repository it builds the archive, if the Rattle toolchain is there.
-#![cfg_attr(not(feature = "std"), no_std)]
+#![cfg_attr(core_alone, no_std)]
 #![deny(unsafe_code)]
 #![warn(missing_docs)]
 
@@ -57,10 +58,16 @@ extern crate alloc;
 #[cfg_attr(not(feature = "std"), allow(dead_code))]
 mod ffi;
 
-#[cfg(not(feature = "std"))]
-use core::net::{IpAddr, Ipv4Addr, Ipv6Addr};
-#[cfg(feature = "std")]
-use std::net::{IpAddr, Ipv4Addr, Ipv6Addr};
+#[cfg(core_alone)]
+use core::{
+    error::Error as StdError,
+    net::{IpAddr, Ipv4Addr, Ipv6Addr},
+};
+#[cfg(not(core_alone))]
+use std::{
+    error::Error as StdError,
+    net::{IpAddr, Ipv4Addr, Ipv6Addr},
+};
 
 mod builder;
 mod codes;

@@ -245,17 +245,19 @@ impl<'a> Message<'a> {
     }
 
     /// Returns the message written again: compressed, and in at most `max_size` octets. A set of records that has no room
-    /// is left out whole, and so are the later ones of its section (RFC 2181, section 5). If one is left out, TC is set
-    /// (RFC 2181, section 9), unless it only goes with the answers of a response. The OPT record and a signature of the
-    /// message are never left out, and come last: TSIG, or SIG(0), which is a SIG that covers the type 0 (RFC 2931,
-    /// section 3).
+    /// is left out whole, and so are the later ones of its section (RFC 2181, section 5). If one is left out that is
+    /// required, TC is set, and nothing is left out of a request: see [`MessageBuilder::finish`]. The OPT record and a
+    /// signature of the message are never left out, and come last: TSIG, or SIG(0), which is a SIG that covers the type 0
+    /// (RFC 2931, section 3).
+    ///
+    /// [`MessageBuilder::finish`]: crate::MessageBuilder::finish
     ///
     /// # Errors
     ///
     /// The errors of [`edns`](Message::edns); those of [`Record::fields`] if the data of a record are not valid;
     /// `MessageTooLong` if the header, the questions and the records that are never left out have more than `max_size`
-    /// octets; `TooManyPointers` if the names in the data follow more than 65,536 compression pointers, or the others do,
-    /// which [`read_limited`](Message::read_limited) may have allowed; or `NoMemory`.
+    /// octets, or if a request has; `TooManyPointers` if the names in the data follow more than 65,536 compression
+    /// pointers, or the others do, which [`read_limited`](Message::read_limited) may have allowed; or `NoMemory`.
     ///
     /// ```
     /// let octets = b"\0\0\x84\0\0\x01\0\x01\0\0\0\0\x01b\0\0\x05\0\x01\x01b\0\0\x05\0\x01\0\0\0\0\0\x05\x01a\x01b\0";

@@ -38,14 +38,6 @@ impl Room {
             false => &self.heap,
         }
     }
-
-    #[inline]
-    pub(crate) fn as_mut_slice(&mut self) -> &mut [u8] {
-        match self.heap.is_empty() {
-            true => &mut self.stack[..self.len],
-            false => &mut self.heap,
-        }
-    }
 }
 
 impl Sink for Room {

@@ -294,7 +294,7 @@ macro_rules! structs {
             $($(#[$field_doc])* pub $field: owned!($kind),)*
         }
 
-        impl<'a> From<rdata::$name $(<$life>)?> for $name {
+        impl$(<$life>)? From<rdata::$name $(<$life>)?> for $name {
             fn from(data: rdata::$name $(<$life>)?) -> Self {
                 $name { $($field: data.$field.own(),)* }
             }

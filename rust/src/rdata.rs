@@ -54,7 +54,7 @@ macro_rules! structs {
             $($(#[$field_doc])* pub $field: $type,)*
         }
 
-        impl<'a> fmt::Debug for $name $(<$life>)? {
+        impl$(<$life>)? fmt::Debug for $name $(<$life>)? {
             fn fmt(&self, f: &mut fmt::Formatter<'_>) -> fmt::Result {
                 f.debug_struct(stringify!($name))$(.field(stringify!($field), shown!($kind &self.$field)))*.finish()
             }

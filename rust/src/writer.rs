@@ -13,14 +13,16 @@ use crate::record_set::RecordSet;
 use alloc::vec::Vec;
 use core::fmt;
 
-/// Whether a message is truncated if it has no room for an item (RFC 2181, section 9).
+/// Whether a response is truncated if it has no room for an item (RFC 2181, section 9), by the word of the caller.
 ///
 /// ```
 /// use dns_names_wire::{Header, Message, MessageBuilder, Need, RecordBuf, Section};
 ///
 /// let record: RecordBuf = "a. 60 A 192.0.2.1".parse()?;
+/// let mut header = Header::default();
+/// header.is_response = true;
 /// for (need, is_truncated) in [(Need::Required, true), (Need::Optional, false)] {
-///     let octets = MessageBuilder::new(Header::default()).records(Section::Answers, need, [&record]).finish(16)?;
+///     let octets = MessageBuilder::new(header).records(Section::Answers, need, [&record]).finish(16)?;
 ///     assert_eq!(Message::read(&octets)?.header().truncation, is_truncated);
 /// }
 /// # Ok::<(), dns_names_wire::Error>(())

@@ -6,6 +6,7 @@ use dns_names_wire::{
     RecordBuf, RecordSet, RecordType, ResponseCode, Section, Texts, TypeSet,
 };
 use std::net::{IpAddr, Ipv4Addr, Ipv6Addr};
+use std::slice::from_ref;
 
 const QUERY: &str = "12340100000100000000000103777777076578616d706c6503636f6d000001000100002904d0000000000000";
 const REPLY: &str = "\
@@ -77,8 +78,8 @@ fn a_query_and_its_reply_are_written() {
     assert!(read.is_reply_to(&Message::read(&upper).unwrap()));
 }
 
-/// With fewer octets, fewer sets of records fit. TC is set if one of the Answer section is left out. The question and OPT
-/// always fit.
+/// With fewer octets, fewer sets of records fit. TC is set if one of the Answer section is left out, or the SOA; the NS are
+/// not required beside an answer. The question and OPT always fit.
 #[test]
 fn a_reply_has_no_more_than_the_size() {
     let octets_of_query = query();
@@ -92,7 +93,8 @@ fn a_reply_has_no_more_than_the_size() {
         assert!(message.len() <= size.into());
         let read = Message::read(&message).unwrap();
         let (answers, authorities) = (read.answers().len(), read.authorities().len());
-        assert_eq!((is_cut, read.header().truncation), (answers < 5, answers < 5), "{size}");
+        let lacks_one = answers < 5 || authorities < 1;
+        assert_eq!((is_cut, read.header().truncation), (lacks_one, lacks_one), "{size}");
         assert!(read.answers().eq(all.answers().take(answers)), "{size}");
         assert!(read.authorities().eq(all.authorities().take(authorities)), "{size}");
         assert!(answers <= before, "{size}");
@@ -116,12 +118,19 @@ fn a_reply_has_no_more_than_the_size() {
     assert_eq!(MessageBuilder::new(Header::default()).finish(12).unwrap(), [0; 12]);
 }
 
+/// A response to a question for this type.
+fn response(owner: &str, record_type: RecordType) -> MessageBuilder {
+    let mut message = MessageBuilder::query(7, &name(owner), record_type);
+    message.header_mut().is_response = true;
+    message
+}
+
 /// What is required by default, and otherwise (RFC 2181, section 9; RFC 9471).
 #[test]
 fn what_is_required_decides_on_tc() {
     let (soa, address) = (record("a. 60 SOA a. a. 1 2 3 4 5"), record("a. 60 A 192.0.2.1"));
     let is_cut = |add: &dyn Fn(&mut MessageBuilder)| {
-        let mut message = MessageBuilder::query(7, &name("a."), RecordType::A);
+        let mut message = response("a.", RecordType::A);
         add(&mut message);
         let written = message.finish(19 + 16).unwrap();
         Message::read(&written).unwrap().header().truncation
@@ -129,17 +138,11 @@ fn what_is_required_decides_on_tc() {
     assert!(is_cut(&|it| {
         it.authorities([&soa]);
     }));
-    assert!(!is_cut(&|it| {
-        it.answers([&address]).authorities([&soa]);
-    }));
-    assert!(!is_cut(&|it| {
+    assert!(is_cut(&|it| {
         it.authorities([&soa]).answers([&address]);
     }));
     assert!(!is_cut(&|it| {
         it.additionals([&soa]);
-    }));
-    assert!(!is_cut(&|it| {
-        it.answers([&address]).additionals([&soa]);
     }));
     assert!(is_cut(&|it| {
         it.answers([&soa]);
@@ -169,13 +172,70 @@ fn what_is_required_decides_on_tc() {
     }
 }
 
+/// A message that is cut says so by TC exactly if it lacks what the RFCs require. Written again, it is the same.
+#[test]
+fn what_is_left_out_is_not_missing() {
+    const SIGNATURE: &str = "8 2 60 20300101000000 20200101000000 1 a. AAAA";
+    let signed = |owner: &str, covered: &str| record(&format!("{owner} 60 RRSIG {covered} {SIGNATURE}"));
+    let (soa, ns) = (record("a. 60 SOA a. a. 1 2 3 4 5"), record("a. 60 NS ns.a."));
+    let (address, glue) = (record("b.a. 60 A 192.0.2.1"), record("NS.A. 60 AAAA 2001:db8::1"));
+    let (nsec, alias) = (record("c.a. 60 NSEC d.a. A RRSIG NSEC"), record("b.a. 60 CNAME x.a."));
+    let sections: [(&str, [&[RecordBuf]; 3], bool); 9] = [
+        // A wildcard's answer has to have its proof (RFC 4035, sections 3.1.1 and 3.1.3.3).
+        ("a wildcard", [from_ref(&address), &[nsec.clone(), signed("c.a.", "NSEC")], &[]], true),
+        ("a proof", [from_ref(&address), &[signed("c.a.", "NSEC"), nsec], &[]], true),
+        // The name that an alias stands for does not exist (RFC 2308, section 2.1).
+        ("an alias", [from_ref(&alias), from_ref(&soa), &[]], true),
+        ("no data", [&[], from_ref(&soa), &[]], true),
+        // A referral needs its servers, and their addresses at the cut or below it, but no signatures of these (RFC 9471; RFC
+        // 4035, section 3.1.1).
+        ("a referral", [&[], from_ref(&ns), &[]], true),
+        ("glue", [&[], from_ref(&ns), from_ref(&glue)], true),
+        ("a signature of glue", [&[], from_ref(&ns), &[signed("ns.a.", "AAAA")]], false),
+        // Beside data NS is extra information (RFC 2181, section 9).
+        ("servers", [from_ref(&address), &[ns.clone(), signed("a.", "NS")], from_ref(&glue)], false),
+        ("others", [from_ref(&address), &[], from_ref(&glue)], false),
+    ];
+    for (what, [answers, authorities, additionals], is_required) in sections {
+        let mut message = response("b.a.", RecordType::A);
+        message.answers(answers).authorities(authorities).additionals(additionals);
+        let whole = message.finish(u16::MAX).unwrap();
+        assert!(!Message::read(&whole).unwrap().header().truncation);
+        let cut = message.finish(whole.len() as u16 - 1).unwrap();
+        assert!(cut.len() < whole.len());
+        assert_eq!(Message::read(&cut).unwrap().header().truncation, is_required, "{what}");
+        assert_eq!(Message::read(&whole).unwrap().to_wire(whole.len() as u16 - 1).unwrap(), cut, "{what}");
+    }
+}
+
+/// A request is whole or fails: half an UPDATE is another UPDATE (RFC 2136, section 3.4.2). So is a transfer.
+#[test]
+fn a_request_is_never_cut() {
+    let added: Vec<RecordBuf> = (0..30).map(|i| record(&format!("host-{i}.example. 60 A 192.0.2.{i}"))).collect();
+    let used = record("a.example. 0 ANY ANY \\# 0");
+    let mut update = MessageBuilder::query(7, &name("example."), RecordType::SOA);
+    update.header_mut().op_code = OpCode::Update;
+    update.answers([&used]).authorities(&added);
+    let mut transfer = response("example.", RecordType::AXFR);
+    transfer.answers(&added);
+    for message in [update, transfer] {
+        let whole = message.finish(u16::MAX).unwrap();
+        for size in [12, 29, 100, 512, whole.len() as u16 - 1] {
+            assert_eq!(message.finish(size).unwrap_err().kind(), ErrorKind::MessageTooLong, "{size}");
+            let error = Message::read(&whole).unwrap().to_wire(size).unwrap_err();
+            assert_eq!(error.kind(), ErrorKind::MessageTooLong, "{size}");
+        }
+        assert_eq!(Message::read(&whole).unwrap().to_wire(whole.len() as u16).unwrap(), whole);
+    }
+}
+
 /// A set is written whole or not at all, and a later one of the section is not written without it.
 #[test]
 fn sets_are_whole() {
     let lines = ["a. 60 A 192.0.2.1", "a. 60 A 192.0.2.2", "a. 60 NS a."];
     let records = lines.map(record);
     for size in 19..100 {
-        let written = MessageBuilder::query(7, &name("a."), RecordType::A).answers(&records).finish(size).unwrap();
+        let written = response("a.", RecordType::A).answers(&records).finish(size).unwrap();
         let message = Message::read(&written).unwrap();
         let wanted = if size < 19 + 32 {
             0
@@ -200,7 +260,7 @@ fn sets_are_whole() {
 fn the_last_record_is_last() {
     let tsig = record("a. 0 ANY TSIG \\# 19 00 00005F0F9043 012C 0002 491B DCC6 0000 0000");
     let least = 19 + 11 + tsig.as_wire().len() as u16;
-    let mut message = MessageBuilder::query(7, &name("a."), RecordType::A);
+    let mut message = response("a.", RecordType::A);
     message.last(&tsig).edns(&Edns::new(1232)).answers([record("a. 60 A 192.0.2.1")]);
     for size in least..least + 40 {
         let written = message.finish(size).unwrap();
@@ -284,12 +344,14 @@ fn what_fails_leaves_a_message_unchanged() {
     assert_eq!(message.clone().answers([&wrong]).finish(512).unwrap_err().kind(), ErrorKind::BadData);
 }
 
-/// More records than a section can count fit in no message.
+/// More records than a section can count fit in no message: a response is cut, and a request is not written.
 #[test]
 fn a_section_counts_no_more_than_65535() {
     let record = RecordBuf::from_octets(&Name::root(), RecordType::from(65280), Class::IN, 0, b"").unwrap();
     let mut message = MessageBuilder::new(Header::default());
     message.answers(std::iter::repeat(&record).take(70_000)).edns(&Edns::new(512));
+    assert_eq!(message.finish(u16::MAX).unwrap_err().kind(), ErrorKind::MessageTooLong);
+    message.header_mut().is_response = true;
     let written = message.finish(u16::MAX).unwrap();
     let read = Message::read(&written).unwrap();
     assert_eq!((read.answers().len(), read.header().truncation, read.edns().unwrap().is_some()), (0, true, true));
@@ -445,7 +507,7 @@ fn records_are_taken_from_messages() {
         .additionals(others(message.additionals()));
     assert_eq!(again.finish(u16::MAX), Ok(reply));
     let other = record("a. 9 CH TXT b");
-    assert_eq!(RecordBuf::try_from(other.as_record()), Ok(other.clone()));
+    assert_eq!(RecordBuf::try_from(other.as_record()), Ok(other));
     let cut = Record::read(b"\0\0\x01\0\x01\0\0\0\0\0\x03\xC0\0\x02", 0).unwrap();
     assert_eq!(RecordBuf::try_from(cut).unwrap_err().kind(), ErrorKind::MessageCut);
 }

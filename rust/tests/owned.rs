@@ -114,7 +114,7 @@ fn structs_are_data_and_come_back() {
     let mx = owned::MX { preference: 10, exchange: name("b.") };
     let data = owned::RData::from(mx.clone());
     assert_eq!(owned::MX::try_from(data.clone()), Ok(mx.clone()));
-    assert_eq!(owned::SRV::try_from(data.clone()), Err(data.clone()));
+    assert_eq!(owned::SRV::try_from(data.clone()), Err(data));
     let borrowed = RData::from(&mx);
     assert_eq!(rdata::MX::try_from(borrowed.clone()), Ok(rdata::MX::from(&mx)));
     assert_eq!(rdata::SRV::try_from(borrowed.clone()), Err(borrowed));

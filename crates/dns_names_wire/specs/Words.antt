@@ -229,8 +229,8 @@ pub use Rattle.dnw_signed.specs.KeyTags.{FailsKeyTag, HasKeyTag, IsDnskey, algor
 pub use Rattle.dnw_signed.specs.Digests.{FailsDsDigest, IsDsDigest, ds_hash, ds_input}
 pub use Rattle.dnw_signed.specs.HashedNames.{FailsToHash, MayHash, iterated_hash, nsec3_hash, nsec3_label}
 pub use Rattle.dnw_signed.specs.Covers.{Nsec3Covers, NsecCovers}
-pub use Rattle.dnw_signed.specs.ZoneDigests.{AreZoneOctets, FailsZoneDigest, FirstTooLong, HasShortData, IsZoneDigest, IsZoneHash, IsZoneOrder, IsCanonicalRecord, CanonicalRecord}
-pub use Rattle.dnw_signed.specs.ZoneDigests.{is_digested, is_duplicate, is_of_zonemd, place_cmp, zone_cmp, zone_hash, zone_record}
+pub use Rattle.dnw_signed.specs.ZoneDigests.{AreDigested, AreZoneOctets, FailsZoneDigest, FirstTooLong, HasShortData, HoldsDigest, IsDigested, IsZoneDigest, IsZoneHash, IsZoneOrder, IsCanonicalRecord, CanonicalRecord}
+pub use Rattle.dnw_signed.specs.ZoneDigests.{is_duplicate, is_of_zonemd, place_cmp, zone_cmp, zone_hash, zone_record}
 -- Messages that are written item by item into a buffer, and what is read of them.
 pub use Rattle.dnw_message_writer.specs.Contents.{AddedItems, AddedQuestion, AddedRecord, HoldsItems, KeepsItems, PieceStands, PiecesStand, QuestionFits, ReadsAsQuestion, ReadsAsRecord, RecordFits}
 pub use Rattle.dnw_message_writer.specs.Contents.{cut_flags, fields_before, items_of_section, most_followed, no_items, with_data, with_question, with_records}
@@ -242,8 +242,8 @@ pub use Rattle.dnw_message_writer.specs.CompressedNames.{Compresses, FindsHint, 
 pub use Rattle.dnw_message_writer.specs.ContentLaws.{given_form, GivenRecordsAreAdded}
 pub use Rattle.dnw_message_writer.specs.Copying.{AreASet, AreOfOneSet, CopiesHeld, CopiesMessage, CopiesQuestions, CopiesSections, CopiesSets, copied_past, CopyFits, EndsBefore}
 pub use Rattle.dnw_message_writer.specs.Copying.{FailsHeld, FailsQuestions, FailsSections, FailsSets, FailsToAddCopy, FailsToAddQuery, FailsToCopyMessage, FollowsFew, StopsAmong}
-pub use Rattle.dnw_message_writer.specs.Copying.{StopsInSet}
-pub use Rattle.dnw_message_writer.specs.Copying.{copied_form, covers_no_type, held_from, held_in, is_answer, is_held, is_missing, own_octets, query_form, sets_of, sig_code, signs_message, tsig_code}
+pub use Rattle.dnw_message_writer.specs.Copying.{StandWhole, StopsInSet}
+pub use Rattle.dnw_message_writer.specs.Copying.{copied_form, covers_no_type, held_from, held_in, is_held, lacks_required, left_out_of, MayNotMiss, Misses, own_octets, query_form, sets_of, sig_code, signs_message, tsig_code}
 pub use Rattle.dnw_message_writer.specs.CopyLaws.{AreItemsOf, AreTheFirst, CopiesHold, IsCopiedQuestion, IsCopiedRecord}
 pub use Rattle.dnw_message_writer.specs.Data.{AreOfData}
 pub use Rattle.dnw_message_writer.specs.Edns.{AddsOpt, AddsOptItem, FailsToAddOpt, FailsToAddOptItem, opt_data, opt_size, padding, ttl_of_edns}
@@ -252,6 +252,7 @@ pub use Rattle.dnw_message_writer.specs.Items.{fields_of_record, IsNear, IsOwner
 pub use Rattle.dnw_message_writer.specs.Items.{opt_code, question_form, question_past, record_form, record_past}
 pub use Rattle.dnw_message_writer.specs.Listed.{data_form, data_past, FailsListed, FailsToAddData, ListsData}
 pub use Rattle.dnw_message_writer.specs.NameLaws.{CompressedNamesTakeNoMore, KeepsSettled, WrittenNamesAreRead}
+pub use Rattle.dnw_message_writer.specs.Needs.{with_asked, with_all_asked, has_left_required, has_required, holding, holding_all, is_of_address, is_below, is_below_cut, is_glue, is_of_query, is_of_servers, is_request, is_required, is_required_in, is_transfer, is_uncut, purpose_by, purpose_of}
 pub use Rattle.dnw_message_writer.specs.Pieces.{ArePieces, GoesPast, IsPiece}
 pub use Rattle.dnw_message_writer.specs.Queries.{AddsSize, BeginsQuery, FailsToAddSize, FailsToQuery, query_flags}
 pub use Rattle.dnw_message_writer.specs.ReadItems.{GivenDataComeBack}

@@ -1,9 +1,10 @@
 -- Messages that are written from a list of items at once, and why one is not.
 --
 -- A list has an octet for each item, and then the item: a question, or a record, as they stand in a message (RFC 1035, sections 4.1.2
--- and 4.1.3). The octet is the number of the sections before the item's own; for a record that may be left out 128 more; and for one of
--- the last items of the message, which are never left out, 64 more.
-use Rattle.std.specs.Prelude.{◌≡◌, ◌≢◌, ◌<◌, ◌≤◌, ◌⊎◌, ◌==◌, ◌||◌, nat_lt, ℕ, ◌+◌, ◌-◌, ◌%◌, min, if◌then◌else◌, Bool, false, Some, List, length, take, slice_get, Result, MatchResult}
+-- and 4.1.3). The octet is the number of the sections before the item's own. What may be left out of a message is defined in
+-- `dnw_message_writer`, in `Needs.antt`; the caller may say otherwise of a record, by 32 more if the message has to have it, and by 128
+-- more if it may be left out. For one of the last items of the message, which are never left out, the octet is 64 more.
+use Rattle.std.specs.Prelude.{◌≡◌, ◌≢◌, ◌<◌, ◌≤◌, ◌⊎◌, ◌==◌, ◌||◌, nat_lt, ℕ, ◌+◌, ◌%◌, min, if◌then◌else◌, Bool, true, false, Some, List, length, take, slice_get, Result, MatchResult}
 use Rattle.std.specs.Int.{w16, from_be_bytes}
 use Rattle.dnw_base.specs.declared.error.DecodeError.{DecodeError}
 use Rattle.dnw_base.specs.Decoder.{Decoder, HasLeft, next_bytes, advanced}
@@ -14,11 +15,14 @@ use Rattle.dnw_name_read.specs.Reading.{TakesName}
 use Rattle.dnw_name.specs.Decodable.{StopsSomehow}
 use Rattle.dnw_record.specs.Records.{FailsRecord, RecordValue, TakesRecord, data_octets}
 use Rattle.dnw_message_read.specs.Headers.{header_size}
+use Rattle.dnw_message_writer.specs.Copying.{AreOfOneSet}
 use Rattle.dnw_message_writer.specs.Hints.{slot_of}
 use Rattle.dnw_message_writer.specs.Items.{question_form, question_past}
+use Rattle.dnw_message_writer.specs.Needs.{with_asked, holding, is_required, is_uncut, purpose_by}
 use Rattle.dnw_message_writer.specs.Sections.{rank}
 use Rattle.dnw_message_writer.specs.Sets.{cut_off}
 use Rattle.dnw_message_writer.specs.States.{AddsItem, BeginsMessage, released}
+use Rattle.dnw_message_writer.specs.declared.needs.Purpose.{Purpose}
 use Rattle.dnw_message_writer.specs.declared.section.Section.{Section}
 use Rattle.dnw_message_writer.specs.declared.section.Section.TheVariants as Sections
 use Rattle.dnw_message_writer.specs.declared.state.WriterState.{WriterState}
@@ -41,19 +45,23 @@ last_octet = 67
 
 -- The octet is before a record of a section.
 abbrev pub IsOctetOf : ℕ → Section → Type 0
-IsOctetOf octet s = (1 ≤ rank s) × ((octet ≡ rank s) ⊎ (octet ≡ rank s + 128))
+IsOctetOf octet s = (1 ≤ rank s) × ((octet ≡ rank s) ⊎ (octet ≡ rank s + 32) ⊎ (octet ≡ rank s + 128))
 
--- The message has to have the record.
-abbrev pub is_required : ℕ → Bool
-is_required octet = nat_lt octet 128
+-- the section of a record by its octet; the last items are additional records
+abbrev pub section_of : ℕ → Section
+section_of octet = if octet % 4 == 1 then Sections.Answers else (if octet % 4 == 2 then Sections.Authorities else Sections.Additionals)
+
+-- The message has to have the record: by the word of the caller, or else by what the message is for.
+abbrev pub has_to_be_there : Purpose → Section → ℕ → RecordValue → Bool
+has_to_be_there needs s octet x = if nat_lt octet 32 then is_required s needs x else nat_lt octet 128
 
 -- The octet is before no item.
 abbrev pub IsNoOctet : ℕ → Type 0
-IsNoOctet octet = (3 < octet) × (octet ≢ last_octet) × ((octet < 129) ⊎ (131 < octet))
+IsNoOctet octet = (3 < octet) × (octet ≢ last_octet) × ((octet < 33) ⊎ (35 < octet)) × ((octet < 129) ⊎ (131 < octet))
 
 -- the place of an item in the order of a list: that of its section, and after all of them for the last ones
 abbrev pub place_of : ℕ → ℕ
-place_of octet = if octet == last_octet then 4 else octet % 128
+place_of octet = if octet == last_octet then 4 else octet % 4
 
 -- The next item begins with this octet.
 abbrev pub BeginsWithOctet : Decoder → ℕ → Type 0
@@ -97,29 +105,32 @@ more_octets held more = min (held + more) 18446744073709551615
 abbrev pub whole_item : RecordValue → ℕ
 whole_item x = encoded_size x.owner + 10 + x.len
 
--- The item that is next, after this octet, has so many; of a question it does not matter.
-abbrev pub ScansItem : ℕ → Decoder → ℕ → Decoder → Type 0
-ScansItem octet d size after =
-    ((octet ≡ question_octet) × (name : List (List ℕ)) × (query_type : ℕ) × (class : ℕ) × TakesQuestion d name query_type class after)
-    ⊎ ((octet ≢ question_octet) × (IsNoOctet octet → ⊥) × (x : RecordValue) × TakesListed d octet x after × (size ≡ whole_item x))
+-- The item that is next, after this octet, has so many (of a question it does not matter), and is one more of its message.
+abbrev pub ScansItem : ℕ → Decoder → Purpose → ℕ → Decoder → Purpose → Type 0
+ScansItem octet d before size after needs =
+    ((octet ≡ question_octet) × (name : List (List ℕ)) × (query_type : ℕ) × (class : ℕ) × TakesQuestion d name query_type class after
+    × (needs ≡ with_asked query_type before))
+    ⊎ ((octet ≢ question_octet) × (IsNoOctet octet → ⊥) × (x : RecordValue) × TakesListed d octet x after × (size ≡ whole_item x)
+    × (needs ≡ holding (section_of octet) x before))
 
 abbrev pub held_with : ℕ → ℕ → ℕ → ℕ
 held_with held octet size = if octet == last_octet then more_octets held size else held
 
--- The items up to a decoder are in order, the last of them has this place, and the last items of the message have so many octets.
-pub data ScansTo (list : List ℕ) : Decoder → ℕ → ℕ → Type 0 where
-  at_start : ScansTo list (at_offset list 0) 0 0
-  more_items : (d after : Decoder) (place held octet size : ℕ)
-      → ScansTo list d place held → place ≤ place_of octet → ScansItem octet d size after
-      → ScansTo list after (place_of octet) (held_with held octet size)
+-- The items up to a decoder are in order, the last of them has this place, the last items of the message have so many octets, and this
+-- is what the message is for so far.
+pub data ScansTo (list : List ℕ) (flags : ℕ) : Decoder → ℕ → ℕ → Purpose → Type 0 where
+  at_start : ScansTo list flags (at_offset list 0) 0 0 (purpose_by flags)
+  more_items : (d after : Decoder) (place held octet size : ℕ) (before needs : Purpose)
+      → ScansTo list flags d place held before → place ≤ place_of octet → ScansItem octet d before size after needs
+      → ScansTo list flags after (place_of octet) (held_with held octet size) needs
 
-abbrev pub HoldsBack : List ℕ → ℕ → Type 0
-HoldsBack list held = (d : Decoder) × (place : ℕ) × ScansTo list d place held × (d.index ≡ length list)
+abbrev pub ScansList : List ℕ → ℕ → ℕ → Purpose → Type 0
+ScansList list flags held needs = (d : Decoder) × (place : ℕ) × ScansTo list flags d place held needs × (d.index ≡ length list)
 
 -- After the items up to a decoder no item is next, or one that should be before them.
-abbrev pub IsBadList : List ℕ → Type 0
-IsBadList list =
-    (d : Decoder) × (place : ℕ) × (held : ℕ) × ScansTo list d place held
+abbrev pub IsBadList : List ℕ → ℕ → Type 0
+IsBadList list flags =
+    (d : Decoder) × (place : ℕ) × (held : ℕ) × (needs : Purpose) × ScansTo list flags d place held needs
     × (IsNoItem d ⊎ ((octet : ℕ) × BeginsWithOctet d octet × (place_of octet < place)))
 
 -- ---- sets
@@ -132,52 +143,38 @@ AddsListed s x = AddsOwned s x.owner (type_code x.record_type) (class_code x.cla
 abbrev pub FailsToAddListed : Section → RecordValue → WriterState → List ℕ → Failure → Type 0
 FailsToAddListed s x = FailsToAddOwned s x.owner (type_code x.record_type) (class_code x.class) x.ttl (data_octets x)
 
--- the octets of an item up to its class, by which the records of a set are known
-abbrev pub set_key : Decoder → RecordValue → List ℕ
-set_key d x = next_bytes d (x.start - 6 - d.index)
+-- No record is next with this octet that is of the set of this one.
+abbrev pub IsNoneOfSet : Decoder → ℕ → RecordValue → Type 0
+IsNoneOfSet d octet first = (x : RecordValue) (after : Decoder) → TakesListed d octet x after → AreOfOneSet first x → ⊥
 
--- The next octets are these.
-abbrev pub IsNext : Decoder → List ℕ → Type 0
-IsNext d key = (HasLeft d (length key)) × (next_bytes d (length key) ≡ key)
-
--- From the item at the decoder first on, records with the octet and this key are added in turn.
-pub data AddsRun (octet : ℕ) (s : Section) (key : List ℕ) (first : Decoder) (w : WriterState) (m : List ℕ) : Decoder → WriterState → List ℕ → Type 0 where
-  none : AddsRun octet s key first w m first w m
+-- From the item at the decoder start on, records with the octet and of the set of this one are added in turn.
+pub data AddsRun (octet : ℕ) (s : Section) (first : RecordValue) (start : Decoder) (w : WriterState) (m : List ℕ) : Decoder → WriterState → List ℕ → Type 0 where
+  none : AddsRun octet s first start w m start w m
   more : (d after : Decoder) (v u : WriterState) (n o : List ℕ) (x : RecordValue)
-      → AddsRun octet s key first w m d v n → IsNext d key → TakesListed d octet x after → AddsListed s x v n u o
-      → AddsRun octet s key first w m after u o
+      → AddsRun octet s first start w m d v n → TakesListed d octet x after → AreOfOneSet first x → AddsListed s x v n u o
+      → AddsRun octet s first start w m after u o
 
--- The records of the set that is next are added: all that follow with its key.
+-- The records of the set that is next are added: all that follow with its octet, owner, type and class (RFC 2181, section 5).
 pub record AddsRecords (d : Decoder) (octet : ℕ) (s : Section) (w : WriterState) (m : List ℕ) (after : Decoder) (v : WriterState) (n : List ℕ) : Type 0 where
   pub x : RecordValue
   pub next : Decoder
   pub first : TakesListed d octet x next
-  pub run : AddsRun octet s (set_key d x) d w m after v n
-  pub others : IsNext after (set_key d x) → ⊥
+  pub run : AddsRun octet s x d w m after v n
+  pub others : IsNoneOfSet after octet x
 
 -- One of them is not, for this reason.
-pub record FailsToAddRecords (d : Decoder) (octet : ℕ) (s : Section) (w : WriterState) (m : List ℕ) (after : Decoder) (v : WriterState) (failure : Failure) : Type 0 where
+pub record FailsToAddRecords (d : Decoder) (octet : ℕ) (s : Section) (w : WriterState) (m : List ℕ) (v : WriterState) (failure : Failure) : Type 0 where
   pub x : RecordValue
   pub next : Decoder
   pub first : TakesListed d octet x next
   pub at : Decoder
   pub between : List ℕ
-  pub run : AddsRun octet s (set_key d x) d w m at v between
-  pub same : IsNext at (set_key d x)
+  pub run : AddsRun octet s x d w m at v between
   pub y : RecordValue
+  pub after : Decoder
   pub takes : TakesListed at octet y after
+  pub same : AreOfOneSet x y
   pub fails : FailsToAddListed s y v between failure
-
--- After some of the records of the set that is next, no record follows.
-pub record IsCutRun (octet : ℕ) (s : Section) (d : Decoder) (w : WriterState) (m : List ℕ) : Type 0 where
-  pub x : RecordValue
-  pub next : Decoder
-  pub first : TakesListed d octet x next
-  pub at : Decoder
-  pub v : WriterState
-  pub between : List ℕ
-  pub run : AddsRun octet s (set_key d x) d w m at v between
-  pub none_follows : IsNoItem at
 
 -- What was added is taken back, but for the hints, which no name has to rest on.
 abbrev pub IsTakenBack : WriterState → List ℕ → WriterState → WriterState → List ℕ → Type 0
@@ -203,66 +200,69 @@ pub record Progress : Type 0 where
 abbrev pub progress : Decoder → WriterState → List ℕ → LeftOut → Progress
 progress d w m left = record { items = d; state = w; message = m; left = left }
 
--- what is left out, with the records of a section too
-abbrev pub left_with : Section → ℕ → LeftOut → LeftOut
-left_with s octet left = record { closed = rank s; missing = left.missing || is_required octet }
+-- what is left out, with a record of a section too
+abbrev pub left_with : Purpose → Section → ℕ → RecordValue → LeftOut → LeftOut
+left_with needs s octet x left = record { closed = rank s; missing = left.missing || has_to_be_there needs s octet x }
 
 -- The next items of a list are written, or left out: a question, the records of a set, or one of the last items. Once a set has no
--- room, the later records of its section are left out too.
-pub data Goes (p q : Progress) : Type 0 where
+-- room, its first record is left out, and so are the later records of its section. Nothing is left out of a message that is never cut.
+pub data Goes (needs : Purpose) (p q : Progress) : Type 0 where
   question : (name : List (List ℕ)) (query_type class : ℕ) → TakesQuestion p.items name query_type class q.items
       → AddsItem Sections.Queries (question_form slot_of name query_type class) p.state p.message q.state q.message
-      → q.left ≡ p.left → Goes p q
+      → q.left ≡ p.left → Goes needs p q
   set : (octet : ℕ) (s : Section) → IsOctetOf octet s → rank s ≢ p.left.closed
-      → AddsRecords p.items octet s p.state p.message q.items q.state q.message → q.left ≡ p.left → Goes p q
-  no_room : (octet : ℕ) (s : Section) (v : WriterState) → IsOctetOf octet s → rank s ≢ p.left.closed
-      → FailsToAddRecords p.items octet s p.state p.message q.items v why.MessageTooLong
-      → IsTakenBack p.state p.message v q.state q.message → q.left ≡ left_with s octet p.left → Goes p q
+      → AddsRecords p.items octet s p.state p.message q.items q.state q.message → q.left ≡ p.left → Goes needs p q
+  no_room : (octet : ℕ) (s : Section) (x : RecordValue) (v : WriterState) → IsOctetOf octet s → rank s ≢ p.left.closed
+      → FailsToAddRecords p.items octet s p.state p.message v why.MessageTooLong → is_uncut needs ≡ false
+      → IsTakenBack p.state p.message v q.state q.message → TakesListed p.items octet x q.items
+      → q.left ≡ left_with needs s octet x p.left → Goes needs p q
   left_out : (octet : ℕ) (s : Section) (x : RecordValue) → IsOctetOf octet s → rank s ≡ p.left.closed
-      → TakesListed p.items octet x q.items → q.state ≡ p.state → q.message ≡ p.message → q.left ≡ left_with s octet p.left → Goes p q
+      → TakesListed p.items octet x q.items → q.state ≡ p.state → q.message ≡ p.message
+      → q.left ≡ left_with needs s octet x p.left → Goes needs p q
   last : (x : RecordValue) → TakesListed p.items last_octet x q.items
-      → AddsHeldItem x p.state p.message q.state q.message → q.left ≡ p.left → Goes p q
+      → AddsHeldItem x p.state p.message q.state q.message → q.left ≡ p.left → Goes needs p q
 
 -- They are not, for this reason, and then nothing is.
-abbrev pub FailsToGo : Progress → Failure → Type 0
-FailsToGo p failure =
+abbrev pub FailsToGo : Purpose → Progress → Failure → Type 0
+FailsToGo needs p failure =
     (IsNoItem p.items × (failure ≡ why.BadItem))
     ⊎ ((name : List (List ℕ)) × (query_type : ℕ) × (class : ℕ) × (after : Decoder) × TakesQuestion p.items name query_type class after
     × FailsToAddItem Sections.Queries (question_past slot_of name) p.state p.message failure)
-    ⊎ ((octet : ℕ) × (s : Section) × (after : Decoder) × (v : WriterState) × IsOctetOf octet s × (rank s ≢ p.left.closed)
-    × FailsToAddRecords p.items octet s p.state p.message after v failure × (failure ≢ why.MessageTooLong))
-    ⊎ ((octet : ℕ) × (s : Section) × IsOctetOf octet s × IsCutRun octet s p.items p.state p.message × (failure ≡ why.BadItem))
+    ⊎ ((octet : ℕ) × (s : Section) × (v : WriterState) × IsOctetOf octet s × (rank s ≢ p.left.closed)
+    × FailsToAddRecords p.items octet s p.state p.message v failure × (failure ≡ why.MessageTooLong → is_uncut needs ≡ true))
     ⊎ ((x : RecordValue) × (after : Decoder) × TakesListed p.items last_octet x after
     × FailsToAddLastItem x p.state p.message failure)
 
 -- Items are written one after another from the start of a list.
-pub data GoesFrom (first : Progress) : Progress → Type 0 where
-  here : GoesFrom first first
-  further : (p q : Progress) → GoesFrom first p → Goes p q → GoesFrom first q
+pub data GoesFrom (needs : Purpose) (first : Progress) : Progress → Type 0 where
+  here : GoesFrom needs first first
+  further : (p q : Progress) → GoesFrom needs first p → Goes needs p q → GoesFrom needs first q
 
 abbrev pub progress_at : List ℕ → WriterState → List ℕ → Progress
 progress_at list w m = progress (at_offset list 0) w m (record { closed = 0; missing = false })
 
 -- The message of a list begins: with its header, and the octets of the last items held back.
-abbrev pub Starts : List ℕ → ℕ → ℕ → ℕ → List ℕ → Progress → Type 0
-Starts list max_size id flags old p =
-    (held : ℕ) × (w : WriterState) × (m : List ℕ) × HoldsBack list held × BeginsMessage id flags max_size old w m
+abbrev pub Starts : List ℕ → ℕ → ℕ → ℕ → List ℕ → Purpose → Progress → Type 0
+Starts list max_size id flags old needs p =
+    (held : ℕ) × (w : WriterState) × (m : List ℕ) × ScansList list flags held needs × BeginsMessage id flags max_size old w m
     × (p ≡ progress_at list (record w { reserved = held }) m)
 
 -- All items are written or left out. If a required one is left out, TC is set.
 abbrev pub WritesItems : List ℕ → ℕ → ℕ → ℕ → List ℕ → List ℕ → PackedMessage → Type 0
 WritesItems list max_size id flags old new written =
-    (header_size ≤ max_size) × (first : Progress) × (p : Progress) × Starts list max_size id flags old first × GoesFrom first p
+    (header_size ≤ max_size) × (needs : Purpose) × (first : Progress) × (p : Progress) × Starts list max_size id flags old needs first
+    × GoesFrom needs first p
     × (p.items.index ≡ length list) × (new ≡ (if p.left.missing then cut_off p.message else p.message))
     × (written ≡ record { len = p.state.end; truncated = is_cut new })
 
 -- The list is none, the buffer or the maximum is too short for a header, or an item fails.
 abbrev pub FailsToWriteList : List ℕ → ℕ → ℕ → ℕ → List ℕ → Failure → Type 0
 FailsToWriteList list max_size id flags old failure =
-    (IsBadList list × (failure ≡ why.BadItem))
+    (IsBadList list flags × (failure ≡ why.BadItem))
     ⊎ ((length old < header_size) × (failure ≡ why.NoRoom))
     ⊎ ((header_size ≤ length old) × (max_size < header_size) × (failure ≡ why.MessageTooLong))
-    ⊎ ((first : Progress) × (p : Progress) × Starts list max_size id flags old first × GoesFrom first p × FailsToGo p failure)
+    ⊎ ((needs : Purpose) × (first : Progress) × (p : Progress) × Starts list max_size id flags old needs first × GoesFrom needs first p
+    × FailsToGo needs p failure)
 
 -- A message is written, or it is not for such a reason.
 abbrev pub WritesListOr : List ℕ → ℕ → ℕ → ℕ → List ℕ → List ℕ → Result PackedMessage Failure → Type 0

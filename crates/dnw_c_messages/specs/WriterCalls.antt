@@ -45,11 +45,12 @@ FailsToAddItem s past before old failure = (error : WriteError) × FailsToAdd s 
 
 -- ---- the header
 
--- A message begins, or the buffer is too short for its header.
+-- A message begins, or the buffer or the maximum is too short for its header.
 abbrev pub BeginsOr : ℕ → ℕ → ℕ → WriterState → List ℕ → WriterState → List ℕ → Result (Unit {0}) Failure → Type 0
 BeginsOr id flags max_size before old after new result =
     MatchResult result (λ _. BeginsMessage id flags max_size old after new)
-    (λ failure. (length old < header_size) × (failure ≡ why.NoRoom) × (after ≡ before) × (new ≡ old))
+    (λ failure. (((length old < header_size) × (failure ≡ why.NoRoom))
+    ⊎ ((header_size ≤ length old) × (max_size < header_size) × (failure ≡ why.MessageTooLong))) × (after ≡ before) × (new ≡ old))
 
 -- ---- questions
 

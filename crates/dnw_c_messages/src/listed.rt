@@ -1,12 +1,15 @@
 //! Lists of the items of a message.
-ghost use Rattle.std.specs.Prelude.{◌≡◌, ◌≢◌, ◌<◌, ◌≤◌, ◌↔◌, ◌+◌, length, slice_range, IfOk, IfErr, IfSome, IfNone, IsTrue};
+ghost use Rattle.std.specs.Prelude.{◌≡◌, ◌≢◌, ◌<◌, ◌↔◌, length, IfOk, IfErr, IfSome, IfNone, IsTrue};
 ghost use Rattle.dnw_base.specs.Decoder.{advanced};
 ghost use Rattle.dnw_record.specs.Records.{TakesRecord};
+ghost use Rattle.dnw_message_writer.specs.Copying.{AreOfOneSet};
 ghost use Rattle.dnw_c_base.specs.declared.failure.Failure.TheVariants.{BadItem};
-ghost use Rattle.dnw_c_messages.specs.ListCalls.{BeginsWithOctet, HoldsBack, IsBadList, IsNext, IsNoItem, IsNoOctet, IsOctetOf, LacksListed, ScansItem, TakesQuestion, held_with, place_of, question_octet, whole_item};
+ghost use Rattle.dnw_c_messages.specs.ListCalls.{BeginsWithOctet, IsBadList, IsNoItem, IsNoneOfSet, IsNoOctet, IsOctetOf, LacksListed, ScansItem, ScansList, TakesListed, TakesQuestion, held_with, place_of, question_octet, section_of, whole_item};
 
 use dnw_base::decoder::BinDecoder;
 use dnw_c_base::failure::Failure;
+use dnw_message_writer::copying::is_of_set;
+use dnw_message_writer::needs::Purpose;
 use dnw_message_writer::section::Section;
 use dnw_name::name_ref::NameRef;
 use dnw_record::record_ref::{FIXED_SIZE, RecordRef};
@@ -15,6 +18,10 @@ use dnw_record::record_ref::{FIXED_SIZE, RecordRef};
 pub(crate) const QUESTION: u8 = 0;
 /// The octet before one of the last items of a message.
 pub(crate) const LAST: u8 = 67;
+/// What the octet of a record has besides its section if the caller says that the message has to have it.
+pub(crate) const REQUIRED: u8 = 32;
+/// What it has if the caller says that it may be left out.
+pub(crate) const OPTIONAL: u8 = 128;
 
 /// A question of a list.
 #[derive(Drop)]
@@ -24,42 +31,59 @@ pub(crate) struct Question<'l> {
     pub(crate) class: u16,
 }
 
-/// Returns how many octets the last items of a list have in all, if their names are whole.
-pub(crate) fn held_for(items: &[u8]) -> Result<usize, Failure>
-    ensures ok { IfOk result (HoldsBack items.now) }
-    ensures err { IfErr result (λ failure. IsBadList items.now × (failure ≡ BadItem)) }
+/// What the items of a list say of their message.
+#[derive(Drop)]
+pub(crate) struct Scan<'l> {
+    /// How many octets the last items have in all, if their names are whole.
+    pub(crate) held: usize,
+    /// What the message is for.
+    pub(crate) purpose: Purpose<'l>,
+}
+
+/// Returns what the items of a list say of their message, which has these flags.
+pub(crate) fn scan_list(items: &[u8], flags: u16) -> Result<Scan<'_>, Failure>
+    ensures ok { IfOk result (λ found. ScansList items.now flags found.held found.purpose) }
+    ensures err { IfErr result (λ failure. IsBadList items.now flags × (failure ≡ BadItem)) }
 {
     let mut decoder = BinDecoder::new(items);
     let mut last = 0;
     let mut held = 0;
+    let mut purpose = Purpose::new(flags);
     'list: while !decoder.is_empty() {
         let octet = octet_at(&decoder);
         let place = place_of(octet);
         if place < last {
             return Err(Failure::BadItem);
         }
-        let size = scan_item(octet, &mut decoder)?;
+        let size = scan_item(octet, &mut decoder, &mut purpose)?;
         last = place;
         held = held_with(held, octet, size);
     }
-    Ok(held)
+    Ok(Scan { held, purpose })
 }
 
-/// Reads past an item, and returns how many octets it has.
-fn scan_item(octet: u8, decoder: &mut BinDecoder<'_>) -> Result<usize, Failure>
+/// Reads past an item, which is one more of a message, and returns how many octets it has.
+fn scan_item<'l>(
+    octet: u8,
+    decoder: &mut BinDecoder<'l>,
+    purpose: &mut Purpose<'l>,
+) -> Result<usize, Failure>
     requires { BeginsWithOctet decoder.old octet }
-    ensures ok { IfOk result (λ size. ScansItem octet decoder.old size decoder.new) }
+    ensures ok { IfOk result (λ size. ScansItem octet decoder.old purpose.old size decoder.new purpose.new) }
     ensures err { IfErr result (λ failure. IsNoItem decoder.old × (failure ≡ BadItem)) }
 {
     if octet == QUESTION {
-        read_question(decoder)?;
+        let question = read_question(decoder)?;
+        purpose.ask(question.query_type);
         return Ok(0);
     }
     if is_no_octet(octet) {
         return Err(Failure::BadItem);
     }
     let record = read_record(decoder)?;
-    Ok(whole_item(&record))
+    let size = whole_item(&record);
+    purpose.take(section_of(octet), record);
+    Ok(size)
 }
 
 /// Returns the octet before the next item.
@@ -130,14 +154,25 @@ fn held_with(held: usize, octet: u8, size: usize) -> usize
 fn place_of(octet: u8) -> u8
     ensures { result ≡ place_of octet }
 {
-    if octet == LAST { 4 } else { octet % 128 }
+    if octet == LAST { 4 } else { octet % 4 }
 }
 
 /// Returns `true` if the octet is before no item.
 fn is_no_octet(octet: u8) -> bool
     ensures { IsTrue result ↔ IsNoOctet octet }
 {
-    3 < octet && octet != LAST && (octet < 129 || 131 < octet)
+    3 < octet && octet != LAST && (octet < 33 || 35 < octet) && (octet < 129 || 131 < octet)
+}
+
+/// Returns the section of a record by the octet before it. The last items are additional records.
+fn section_of(octet: u8) -> Section
+    ensures { result ≡ section_of octet }
+{
+    match octet % 4 {
+        1 => Section::Answers,
+        2 => Section::Authorities,
+        _ => Section::Additionals,
+    }
 }
 
 /// Returns the section of a record by the octet before it.
@@ -146,29 +181,49 @@ pub(crate) fn section_after(octet: u8) -> Option<Section>
     ensures none { IfNone result (octet ≢ question_octet → octet ≢ 67 → IsNoOctet octet) }
 {
     match octet {
-        1 | 129 => Some(Section::Answers),
-        2 | 130 => Some(Section::Authorities),
-        3 | 131 => Some(Section::Additionals),
+        1 | 33 | 129 => Some(Section::Answers),
+        2 | 34 | 130 => Some(Section::Authorities),
+        3 | 35 | 131 => Some(Section::Additionals),
         _ => None,
     }
 }
 
-/// Returns `true` if the next octets of a list are these.
-pub(crate) fn is_next(decoder: &BinDecoder<'_>, key: &[u8]) -> bool
-    ensures { IsTrue result ↔ IsNext decoder.now key.now }
+/// Returns a decoder of the same list, at the same offset.
+#[inline(always)]
+pub(crate) fn again<'l>(decoder: &BinDecoder<'l>) -> BinDecoder<'l>
+    ensures { result ≡ decoder.now }
 {
-    if key.len() > decoder.len() {
-        return false;
-    }
-    let at = decoder.index();
-    &decoder.message()[at..at + key.len()] == key
+    let mut again = BinDecoder::new(decoder.message());
+    again.skip(decoder.index()).unwrap();
+    again
 }
 
-/// Returns the octets from an offset to another.
-pub(crate) fn part(octets: &[u8], start: usize, end: usize) -> &[u8]
-    requires order { start ≤ end }
-    requires inside { end ≤ length octets.now }
-    ensures { result.now ≡ slice_range octets.now start end }
+/// Reads the next record of a list if it has this octet and is of the set of the first one. If it returns `None`, the cursor is
+/// unchanged.
+pub(crate) fn next_of_set<'l>(
+    octet: u8,
+    first: &RecordRef<'_>,
+    decoder: &mut BinDecoder<'l>,
+) -> Option<RecordRef<'l>>
+    ensures some { IfSome result (λ x. TakesListed decoder.old octet x decoder.new × AreOfOneSet first.now x) }
+    ensures none { IfNone result (IsNoneOfSet decoder.old octet first.now × (decoder.new ≡ decoder.old)) }
 {
-    &octets[start..end]
+    let left = decoder.len();
+    if left == 0 {
+        return None;
+    }
+    let next = octet_at(decoder);
+    if next != octet {
+        return None;
+    }
+    let mut ahead = again(decoder);
+    let record = match read_record(&mut ahead) {
+        Ok(record) => record,
+        Err(_) => return None,
+    };
+    if !is_of_set(first, &record) {
+        return None;
+    }
+    *decoder = ahead;
+    Some(record)
 }

@@ -9,6 +9,7 @@ use dnw_c_base::failure::Failure;
 use dnw_c_base::results::report;
 use dnw_message_writer::data::{Pieces, only_piece_of, pieces_of};
 use dnw_message_writer::section::{Section, WriteError};
+use dnw_message_writer::standing::FIRST_ITEM;
 use dnw_message_writer::state::WriterState;
 use dnw_name_form::wire_labels::WireLabels;
 
@@ -129,9 +130,12 @@ pub(crate) fn begin(
 ) -> Result<(), Failure>
     ensures { BeginsOr id flags max_size writer.old message.old writer.new message.new result }
 {
+    if message.len() < FIRST_ITEM {
+        return Err(Failure::NoRoom);
+    }
     match writer.begin(message, id, flags, max_size) {
         Ok(()) => Ok(()),
-        Err(_) => Err(Failure::NoRoom),
+        Err(_) => Err(Failure::MessageTooLong),
     }
 }
 

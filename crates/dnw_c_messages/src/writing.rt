@@ -13,12 +13,12 @@ ghost use Rattle.dnw_message_writer.specs.declared.section.Section.TheVariants a
 ghost use Rattle.dnw_message_writer.specs.declared.state.WriterState.{WriterState};
 ghost use Rattle.dnw_c_base.specs.Results.{Returns};
 ghost use Rattle.dnw_c_base.specs.declared.failure.Failure.TheVariants.{BadItem};
-ghost use Rattle.dnw_c_messages.specs.ListCalls.{AddsHeldItem, AddsListed, AddsRecords, BeginsWithOctet, FailsToAddLastItem, FailsToAddListed, FailsToAddRecords, FailsToGo, Goes, GoesFrom, IsCutRun, IsNoItem, IsOctetOf, LacksListed, Progress, TakesListed, TakesQuestion, WritesListOr, last_octet, left_with, progress, progress_at, question_octet};
+ghost use Rattle.dnw_c_messages.specs.ListCalls.{AddsHeldItem, AddsListed, AddsRecords, BeginsWithOctet, FailsToAddLastItem, FailsToAddListed, FailsToAddRecords, FailsToGo, Goes, GoesFrom, IsNoItem, IsOctetOf, LacksListed, Progress, TakesListed, TakesQuestion, WritesListOr, has_to_be_there, last_octet, left_with, progress, progress_at, question_octet};
 ghost use Rattle.dnw_c_messages.specs.WriterCalls.{FailsToAddItem, StaysAsItWas};
 
 use crate::listed::{
-    LAST, QUESTION, held_for, is_next, octet_at, part, read_question, read_record, section_after,
-    whole_item,
+    LAST, OPTIONAL, QUESTION, REQUIRED, again, next_of_set, octet_at, read_question, read_record,
+    scan_list, section_after, whole_item,
 };
 use crate::packed::{PackedMessage, is_cut};
 use crate::writer::{add_owned, begin, of_write};
@@ -27,13 +27,14 @@ use dnw_base::limits::MAX_NAME;
 use dnw_c_base::failure::Failure;
 use dnw_c_base::results::report;
 use dnw_message_writer::hints::SLOTS;
+use dnw_message_writer::needs::Purpose;
 use dnw_message_writer::section::Section;
 use dnw_message_writer::standing::FIRST_ITEM;
 use dnw_message_writer::state::WriterState;
 use dnw_record::record_ref::RecordRef;
 
 /// What is left out of a message: how many sections are before that of the last set that had no room, or 0 if each had; and if a
-/// record is missing that the message has to have.
+/// record is left out that the message has to have.
 #[derive(Clone, Copy)]
 pub(crate) struct LeftOut {
     closed: u8,
@@ -50,7 +51,7 @@ struct Before {
     count: [u8; 2],
 }
 
-/// Puts a message of the items of a list. Sets of records that have no room are left out.
+/// Puts a message of the items of a list. Sets of records that have no room are left out of a response, but for one to a transfer.
 #[unsafe(no_mangle)]
 pub extern "C" fn dnw_message_write(
     items: &[u8],
@@ -75,7 +76,7 @@ fn write(
 ) -> Result<PackedMessage, Failure>
     ensures { WritesListOr items.now max_size id flags message.old message.new result }
 {
-    let held = held_for(items)?;
+    let scan = scan_list(items, flags)?;
     if message.len() < FIRST_ITEM {
         return Err(Failure::NoRoom);
     }
@@ -92,8 +93,8 @@ fn write(
         hints: [0; SLOTS],
     };
     begin(message, max_size, id, flags, &mut writer)?;
-    writer.reserved = held;
-    let missing = write_items(items, message, &mut writer)?;
+    writer.reserved = scan.held;
+    let missing = write_items(items, &scan.purpose, message, &mut writer)?;
     finish(message, missing);
     let truncated = is_cut(message);
     Ok(PackedMessage {
@@ -103,11 +104,17 @@ fn write(
 }
 
 /// Writes the items of a list. Returns `true` if a record is left out that the message has to have.
-fn write_items(items: &[u8], message: &mut [u8], writer: &mut WriterState) -> Result<bool, Failure>
+fn write_items(
+    items: &[u8],
+    purpose: &Purpose<'_>,
+    message: &mut [u8],
+    writer: &mut WriterState,
+) -> Result<bool, Failure>
     ensures ok { IfOk result (λ missing. (d : Decoder) × (closed : ℕ)
-        × GoesFrom (progress_at items.now writer.old message.old) (progress d writer.new message.new (record { closed = closed; missing = missing }))
+        × GoesFrom purpose.now (progress_at items.now writer.old message.old) (progress d writer.new message.new (record { closed = closed; missing = missing }))
         × (d.index ≡ length items.now)) }
-    ensures err { IfErr result (λ failure. (p : Progress) × GoesFrom (progress_at items.now writer.old message.old) p × FailsToGo p failure) }
+    ensures err { IfErr result (λ failure. (p : Progress) × GoesFrom purpose.now (progress_at items.now writer.old message.old) p
+        × FailsToGo purpose.now p failure) }
 {
     let mut decoder = BinDecoder::new(items);
     let mut left = LeftOut {
@@ -115,21 +122,22 @@ fn write_items(items: &[u8], message: &mut [u8], writer: &mut WriterState) -> Re
         missing: false,
     };
     'list: while !decoder.is_empty() {
-        write_next(&mut decoder, message, writer, &mut left)?;
+        write_next(purpose, &mut decoder, message, writer, &mut left)?;
     }
     Ok(left.missing)
 }
 
 /// Writes the next items of a list: a question, the records of a set, or one of the last items.
 fn write_next(
+    purpose: &Purpose<'_>,
     decoder: &mut BinDecoder<'_>,
     message: &mut [u8],
     writer: &mut WriterState,
     left: &mut LeftOut,
 ) -> Result<(), Failure>
     requires { decoder.old.index < length decoder.old.bytes }
-    ensures ok { OnOk result (Goes (progress decoder.old writer.old message.old left.old) (progress decoder.new writer.new message.new left.new)) }
-    ensures err { IfErr result (FailsToGo (progress decoder.old writer.old message.old left.old)) }
+    ensures ok { OnOk result (Goes purpose.now (progress decoder.old writer.old message.old left.old) (progress decoder.new writer.new message.new left.new)) }
+    ensures err { IfErr result (FailsToGo purpose.now (progress decoder.old writer.old message.old left.old)) }
 {
     let octet = octet_at(decoder);
     if octet == QUESTION {
@@ -142,10 +150,26 @@ fn write_next(
         return Err(Failure::BadItem);
     };
     if section.rank() != left.closed {
-        return write_set(octet, section, decoder, message, writer, left);
+        return write_set(purpose, octet, section, decoder, message, writer, left);
     }
-    read_record(decoder)?;
-    *left = left_with(section, octet, *left);
+    leave_out(purpose, octet, section, decoder, left)
+}
+
+/// Passes a record of a list, which is left out.
+fn leave_out(
+    purpose: &Purpose<'_>,
+    octet: u8,
+    section: Section,
+    decoder: &mut BinDecoder<'_>,
+    left: &mut LeftOut,
+) -> Result<(), Failure>
+    requires { BeginsWithOctet decoder.old octet }
+    ensures ok { OnOk result ((x : RecordValue) × TakesListed decoder.old octet x decoder.new
+        × (left.new ≡ left_with purpose.now section octet x left.old)) }
+    ensures err { IfErr result (λ failure. LacksListed decoder.old × (failure ≡ BadItem)) }
+{
+    let record = read_record(decoder)?;
+    *left = left_with(purpose, section, octet, &record, *left);
     Ok(())
 }
 
@@ -194,8 +218,10 @@ fn write_last(
     }
 }
 
-/// Writes the records of a set. If they have no room, those that were written are taken back, and the set is left out.
+/// Writes the records of a set. If they have no room, those that were written are taken back, and the first is left out, and with it
+/// the later records of its section; or it fails if the message is never cut.
 fn write_set(
+    purpose: &Purpose<'_>,
     octet: u8,
     section: Section,
     decoder: &mut BinDecoder<'_>,
@@ -206,8 +232,8 @@ fn write_set(
     requires begins { BeginsWithOctet decoder.old octet }
     requires octet { IsOctetOf octet section }
     requires open { rank section ≢ left.old.closed }
-    ensures ok { OnOk result (Goes (progress decoder.old writer.old message.old left.old) (progress decoder.new writer.new message.new left.new)) }
-    ensures err { IfErr result (FailsToGo (progress decoder.old writer.old message.old left.old)) }
+    ensures ok { OnOk result (Goes purpose.now (progress decoder.old writer.old message.old left.old) (progress decoder.new writer.new message.new left.new)) }
+    ensures err { IfErr result (FailsToGo purpose.now (progress decoder.old writer.old message.old left.old)) }
 {
     let before = Before {
         end: writer.end,
@@ -216,12 +242,18 @@ fn write_set(
         has_opt: writer.has_opt,
         count: two_at(message, 4 + 2 * usize::from(section.rank())),
     };
-    match add_records(octet, section, decoder, message, writer) {
-        Ok(()) => Ok(()),
-        Err(Failure::MessageTooLong) => {
-            take_back(section, before, message, writer);
-            *left = left_with(section, octet, *left);
+    let mut ahead = again(decoder);
+    match add_records(octet, section, &mut ahead, message, writer) {
+        Ok(()) => {
+            *decoder = ahead;
             Ok(())
+        }
+        Err(Failure::MessageTooLong) => {
+            if purpose.is_uncut() {
+                return Err(Failure::MessageTooLong);
+            }
+            take_back(section, before, message, writer);
+            leave_out(purpose, octet, section, decoder, left)
         }
         Err(failure) => Err(failure),
     }
@@ -235,24 +267,20 @@ fn add_records(
     message: &mut [u8],
     writer: &mut WriterState,
 ) -> Result<(), Failure>
-    requires begins { BeginsWithOctet decoder.old octet }
-    requires record_octet { octet ≢ question_octet }
+    requires { BeginsWithOctet decoder.old octet }
     ensures ok { OnOk result (AddsRecords decoder.old octet section writer.old message.old decoder.new writer.new message.new) }
     ensures err { IfErr result (λ failure.
-        FailsToAddRecords decoder.old octet section writer.old message.old decoder.new writer.new failure
-        ⊎ ((failure ≡ BadItem) × (LacksListed decoder.old ⊎ IsCutRun octet section decoder.old writer.old message.old))) }
+        FailsToAddRecords decoder.old octet section writer.old message.old writer.new failure
+        ⊎ ((failure ≡ BadItem) × LacksListed decoder.old)) }
     ensures kept { OnErr result (KeptCount section (take writer.old.end message.old) (take writer.old.end message.new)) }
     ensures state { OnErr result ((writer.new.max_size ≡ writer.old.max_size) × (writer.new.reserved ≡ writer.old.reserved)) }
 {
-    let start = decoder.index();
     let first = read_record(decoder)?;
-    let key = part(decoder.message(), start, first.rdata_offset() - 6);
     let added = add_listed(section, &first, message, writer);
     if let Err(failure) = added {
         return Err(failure);
     }
-    'set: while is_next(decoder, key) {
-        let record = read_record(decoder)?;
+    'set: while let Some(record) = next_of_set(octet, &first, decoder) {
         let added = add_listed(section, &record, message, writer);
         if let Err(failure) = added {
             return Err(failure);
@@ -319,14 +347,30 @@ fn two_at(message: &[u8], at: usize) -> [u8; 2]
     [message[at], message[at + 1]]
 }
 
-/// Returns what is left out, with the records of a section too.
-fn left_with(section: Section, octet: u8, left: LeftOut) -> LeftOut
-    ensures { result ≡ left_with section octet left }
+/// Returns what is left out, with a record of a section, after which nothing of the section is written.
+fn left_with(
+    purpose: &Purpose<'_>,
+    section: Section,
+    octet: u8,
+    item: &RecordRef<'_>,
+    left: LeftOut,
+) -> LeftOut
+    ensures { result ≡ left_with purpose.now section octet item.now left }
 {
     LeftOut {
         closed: section.rank(),
-        missing: left.missing || octet < 128,
+        missing: left.missing || has_to_be_there(purpose, section, octet, item),
     }
+}
+
+/// Returns `true` if the message has to have a record: by the word of the caller, or else by what the message is for.
+fn has_to_be_there(purpose: &Purpose<'_>, section: Section, octet: u8, item: &RecordRef<'_>) -> bool
+    ensures { result ≡ has_to_be_there purpose.now section octet item.now }
+{
+    if octet < REQUIRED {
+        return purpose.is_required(section, item);
+    }
+    octet < OPTIONAL
 }
 
 /// Says in the header if something is missing.

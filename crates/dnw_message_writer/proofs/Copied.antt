@@ -1,20 +1,21 @@
 -- A message that was written again holds the items of the other.
-use Rattle.std.proofs.Common.{◌≡◌, ℕ, ◌≤◌, Bool, true, false, true≢false, if◌then◌else◌, List, [], ◌∷◌, ◌++◌, refl, sym, ap, ◌∙◌, subst, append_assoc, arith}
+use Rattle.std.proofs.Common.{◌≡◌, ℕ, suc, ◌≤◌, ◌&&◌, Bool, true, false, true≢false, if◌then◌else◌, List, [], ◌∷◌, ◌++◌, drop, length, refl, sym, ap, ◌∙◌, subst, append_assoc, drop_at, arith}
 use Rattle.std.specs.List.{AllZip}
 use Rattle.std.proofs.lemmas.List.{append-nil}
 use Rattle.dnw_base.specs.DnsClasses.{class_code}
 use Rattle.dnw_base.specs.RecordTypes.{type_code}
 use Rattle.dnw_record.specs.Records.{RecordValue}
 use Rattle.dnw_message_read.specs.Headers.{flags_of}
-use Rattle.dnw_message_read.specs.Messages.{QueryValue}
+use Rattle.dnw_message_read.specs.Messages.{MessageValue, QueryValue}
 use Rattle.dnw_message_writer.specs.Contents.{AddedItems, AddedQuestion, AddedRecord, HoldsItems, cut_flags, no_items, with_question, with_records}
-use Rattle.dnw_message_writer.specs.Copying.{CopiesSets, copied_form, held_from, held_in, no_room, none_left, one_set, query_form, sets_of}
+use Rattle.dnw_message_writer.specs.Copying.{CopiesSets, Misses, copied_form, held_from, held_in, left_out_of, no_room, none_left, one_set, query_form, sets_of}
 use Rattle.dnw_message_writer.specs.CopyLaws.{AreItemsOf, AreTheFirst, CopiesHold, IsCopiedQuestion, IsCopiedRecord}
 use Rattle.dnw_message_writer.specs.Hints.{slot_of}
 use Rattle.dnw_message_writer.specs.Items.{ItemForm}
+use Rattle.dnw_message_writer.specs.Needs.{has_left_required, is_uncut, purpose_of}
 use Rattle.dnw_message_writer.specs.Sections.{rank}
 use Rattle.dnw_message_writer.specs.Sets.{AddsSet, cut_off}
-use Rattle.dnw_message_writer.specs.States.{AddsItem}
+use Rattle.dnw_message_writer.specs.States.{AddsItem, count_in_header}
 use Rattle.dnw_message_writer.specs.declared.section.Section.{Section}
 use Rattle.dnw_message_writer.specs.declared.section.Section.TheVariants.{Queries, Answers, Authorities, Additionals}
 use Rattle.dnw_message_writer.specs.declared.state.WriterState.{WriterState}
@@ -94,13 +95,18 @@ zip_append [] ys (q ∷ qs) rs none more = absurd none
 zip_append (x ∷ xs) ys [] rs none more = absurd none
 zip_append (x ∷ xs) ys (q ∷ qs) rs (one, others) more = (one, zip_append xs ys qs rs others more)
 
+-- What is left of a section: nothing if all are added.
+record LeftOf (xs : List RecordValue) (rs : List AddedRecord) (all : Bool) : Type 0 where
+  pub first : AreTheFirst xs rs
+  pub none_left : all ≡ true → first.left ≡ []
+
 -- sets are, up to the first that has no room
 sets_hold : (id flags : ℕ) (s : Section) (c : AddedItems) (xs : List RecordValue) (w v : WriterState) (m n : List ℕ) (all : Bool)
     → HoldsItems id flags c w m → 1 ≤ rank s → CopiesSets s xs w m v n all
-    → (rs : List AddedRecord) × AreTheFirst xs rs all × HoldsItems id flags (with_records s rs c) v n
+    → (rs : List AddedRecord) × LeftOf xs rs all × HoldsItems id flags (with_records s rs c) v n
 sets_hold id flags s c xs w v m n all h some (none_left w1 m1) = (
   [],
-  record { copied = []; left = []; are = refl; copies = tt; none_left = λ is. refl },
+  record { first = record { copied = []; left = []; are = refl; copies = tt }; none_left = λ is. refl },
   subst (λ x. HoldsItems id flags x w m) (sym (none_of s c)) h,
 )
 sets_hold id flags s c xs w v m n all h some (one_set set others w1 u v1 m1 between n1 all1 are ends adds more) =
@@ -108,18 +114,55 @@ sets_hold id flags s c xs w v m n all h some (one_set set others w1 u v1 m1 betw
     let (rs, later, last) = sets_hold id flags s (with_records s qs c) others u v between n all holds some more in (
       qs ++ rs,
       record {
-        copied = set ++ later.copied;
-        left = later.left;
-        are = ap (λ ys. set ++ ys) later.are ∙ sym (append_assoc set later.copied later.left);
-        copies = zip_append set later.copied qs rs first later.copies;
+        first = record {
+          copied = set ++ later.first.copied;
+          left = later.first.left;
+          are = ap (λ ys. set ++ ys) later.first.are ∙ sym (append_assoc set later.first.copied later.first.left);
+          copies = zip_append set later.first.copied qs rs first later.first.copies;
+        };
         none_left = later.none_left;
       },
       subst (λ x. HoldsItems id flags x v n) (more_of s qs rs c) last,
     )
 sets_hold id flags s c xs w v m n all h some (no_room xs1 w1 m1 n1 stops same) = (
   [],
-  record { copied = []; left = xs; are = refl; copies = tt; none_left = λ is. absurd (true≢false (sym is)) },
+  record { first = record { copied = []; left = xs; are = refl; copies = tt }; none_left = λ is. absurd (true≢false (sym is)) },
   subst (λ x. HoldsItems id flags x w n) (sym (none_of s c)) (unchanged_messages_hold id flags c w w m n h refl refl same),
+)
+
+zip_size : (xs : List RecordValue) (rs : List AddedRecord) → AllZip IsCopiedRecord xs rs → length xs ≡ length rs
+zip_size [] [] none = refl
+zip_size [] (r ∷ rs) none = absurd none
+zip_size (x ∷ xs) [] none = absurd none
+zip_size (x ∷ xs) (r ∷ rs) (one, more) = ap suc (zip_size xs rs more)
+
+-- those after as many as the message has
+left_are : (s : Section) (xs ys : List RecordValue) (rs : List AddedRecord) (m : List ℕ) (first : AreTheFirst ys rs) → sets_of s xs ≡ ys
+    → count_in_header s m ≡ length rs → left_out_of s xs m ≡ first.left
+left_are s xs ys rs m first of_section counted =
+    let size : length first.copied ≡ count_in_header s m = zip_size first.copied rs first.copies ∙ sym counted in
+    ap (drop (count_in_header s m)) (of_section ∙ first.are) ∙ drop_at first.copied first.left (count_in_header s m) size
+
+-- a record is missing exactly if one is left out that the message has to have
+missing_as : (x : MessageValue) (m : List ℕ) (an us ds : List RecordValue) (all_answers all_authorities all_additionals missing : Bool)
+    → (all_answers ≡ true → an ≡ []) → (all_authorities ≡ true → us ≡ []) → (all_additionals ≡ true → ds ≡ [])
+    → left_out_of Answers x.answers m ≡ an → left_out_of Authorities x.authorities m ≡ us → left_out_of Additionals x.additionals m ≡ ds
+    → Misses x m (all_answers && (all_authorities && all_additionals)) missing
+    → (missing ≡ has_left_required (purpose_of x) an us ds) × (is_uncut (purpose_of x) ≡ true → (an ≡ []) × (us ≡ []) × (ds ≡ []))
+missing_as x m an us ds true true true missing no_an no_us no_ds an_are us_are ds_are misses =
+    let none : (an ≡ []) × (us ≡ []) × (ds ≡ []) = (no_an refl, no_us refl, no_ds refl) in
+    (misses ∙ sym (rw (none.0, none.1, none.2) refl), λ uncut. none)
+missing_as x m an us ds true true false missing no_an no_us no_ds an_are us_are ds_are (cut, is) = (
+  is ∙ rw (an_are, us_are, ds_are) refl,
+  λ uncut. absurd (true≢false (sym uncut ∙ cut)),
+)
+missing_as x m an us ds true false more missing no_an no_us no_ds an_are us_are ds_are (cut, is) = (
+  is ∙ rw (an_are, us_are, ds_are) refl,
+  λ uncut. absurd (true≢false (sym uncut ∙ cut)),
+)
+missing_as x m an us ds false all more missing no_an no_us no_ds an_are us_are ds_are (cut, is) = (
+  is ∙ rw (an_are, us_are, ds_are) refl,
+  λ uncut. absurd (true≢false (sym uncut ∙ cut)),
 )
 
 -- ---- questions
@@ -161,8 +204,8 @@ copies_hold x max_size old new w long copies =
     let s = copies.sections in
     let c1 : AddedItems = record no_items { queries = qs } in
     let (rs, answers, answered) = sets_hold id flags Answers c1 x.answers copies.asked s.answered copies.asked_by s.answered_by s.all_answers holds (omega arith) s.answers in
-    let (us, authorities, led) = sets_hold id flags Authorities (with_records Answers rs c1) x.authorities s.answered s.led s.answered_by s.led_by s.all_authorities answered (omega arith) s.authorities in
-    let c3 = with_records Authorities us (with_records Answers rs c1) in
+    let (us_, authorities, led) = sets_hold id flags Authorities (with_records Answers rs c1) x.authorities s.answered s.led s.answered_by s.led_by s.all_authorities answered (omega arith) s.authorities in
+    let c3 = with_records Authorities us_ (with_records Answers rs c1) in
     let (ds, additionals, filled) = sets_hold id flags Additionals c3 (sets_of Additionals x.additionals) s.led copies.filled s.led_by copies.filled_by s.all_additionals led (omega arith) s.additionals in
     let c4 = with_records Additionals ds c3 in
     let within1 = sets_within Answers x.answers copies.asked s.answered copies.asked_by s.answered_by s.all_answers max_size within s.answers in
@@ -173,18 +216,25 @@ copies_hold x max_size old new w long copies =
     let (ls, last, all) = set_holds id flags Additionals c4 (held_in x.additionals) free w copies.filled_by copies.whole freed (omega arith) copies.held in
     let (most, few) = set_within Additionals copied_form (held_in x.additionals) free w copies.filled_by copies.whole max_size within3 copies.held in
     let c5 = with_records Additionals ls c4 in
+    let an = answers.first in
+    let us = authorities.first in
+    let os = additionals.first in
+    let counts = filled.counts in
+    let (missing_is, uncut) = missing_as x copies.filled_by an.left us.left os.left s.all_answers s.all_authorities s.all_additionals copies.missing
+    answers.none_left authorities.none_left additionals.none_left
+    (left_are Answers x.answers x.answers rs copies.filled_by an refl (counts Answers))
+    (left_are Authorities x.authorities x.authorities us_ copies.filled_by us refl (counts Authorities))
+    (left_are Additionals x.additionals (sets_of Additionals x.additionals) ds copies.filled_by os refl (counts Additionals)) s.missing_is in
     let items : AreItemsOf x c5 copies.missing = record {
       queries = queries;
-      all_answers = s.all_answers;
-      answers = answers;
-      all_authorities = s.all_authorities;
-      authorities = authorities;
-      all_additionals = s.all_additionals;
+      answers = an;
+      authorities = us;
       others = ds;
-      additionals = additionals;
+      additionals = os;
       last = ls;
       held = last;
       additionals_are = refl;
-      missing_is = s.missing_is;
+      missing_is = missing_is;
+      uncut = uncut;
     } in
     (copies.missing, c5, items, few, ends_cut id flags c5 w copies.whole new copies.missing all copies.new_is)

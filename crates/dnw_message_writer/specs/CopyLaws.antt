@@ -9,8 +9,9 @@ use Rattle.dnw_record.specs.Records.{RecordValue}
 use Rattle.dnw_message_read.specs.Headers.{flags_of}
 use Rattle.dnw_message_read.specs.Messages.{MessageValue, QueryValue}
 use Rattle.dnw_message_writer.specs.Contents.{AddedItems, AddedQuestion, AddedRecord, HoldsItems, cut_flags}
-use Rattle.dnw_message_writer.specs.Copying.{CopiesMessage, held_in, is_missing, sets_of}
+use Rattle.dnw_message_writer.specs.Copying.{CopiesMessage, held_in, sets_of}
 use Rattle.dnw_message_writer.specs.Data.{AreOfData}
+use Rattle.dnw_message_writer.specs.Needs.{has_left_required, is_uncut, purpose_of}
 use Rattle.dnw_message_writer.specs.declared.section.Section.TheVariants.{Additionals}
 use Rattle.dnw_message_writer.specs.declared.state.WriterState.{WriterState}
 
@@ -24,29 +25,26 @@ IsCopiedRecord x r =
     (r.owner ≡ x.owner) × (r.record_type ≡ type_code x.record_type) × (r.class ≡ class_code x.class) × (r.ttl ≡ x.ttl)
     × (own : List ℕ) × Copies (record_kinds x) (data_start x) own × AreOfData (fields_of r.class r.record_type own) own r.pieces
 
--- The records are the first of those of a section, or all of them.
-pub record AreTheFirst (xs : List RecordValue) (rs : List AddedRecord) (all : Bool) : Type 0 where
+-- The records are the first of those of a section, and these are left out.
+pub record AreTheFirst (xs : List RecordValue) (rs : List AddedRecord) : Type 0 where
   pub copied : List RecordValue
   pub left : List RecordValue
   pub are : xs ≡ copied ++ left
   pub copies : AllZip IsCopiedRecord copied rs
-  pub none_left : all ≡ true → left ≡ []
 
--- The items are those of a message: all questions, the first records of each section, and all that it has to have. Whether a record
--- is missing.
+-- The items are those of a message: all questions, the first records of each section, and all that come last. A record is missing
+-- exactly if one is left out that the message has to have, and of a message that is never cut none is left out.
 pub record AreItemsOf (x : MessageValue) (c : AddedItems) (missing : Bool) : Type 0 where
   pub queries : AllZip IsCopiedQuestion x.queries c.queries
-  pub all_answers : Bool
-  pub answers : AreTheFirst x.answers c.answers all_answers
-  pub all_authorities : Bool
-  pub authorities : AreTheFirst x.authorities c.authorities all_authorities
-  pub all_additionals : Bool
+  pub answers : AreTheFirst x.answers c.answers
+  pub authorities : AreTheFirst x.authorities c.authorities
   pub others : List AddedRecord
-  pub additionals : AreTheFirst (sets_of Additionals x.additionals) others all_additionals
+  pub additionals : AreTheFirst (sets_of Additionals x.additionals) others
   pub last : List AddedRecord
   pub held : AllZip IsCopiedRecord (held_in x.additionals) last
   pub additionals_are : c.additionals ≡ others ++ last
-  pub missing_is : missing ≡ is_missing x all_answers all_authorities all_additionals
+  pub missing_is : missing ≡ has_left_required (purpose_of x) answers.left authorities.left additionals.left
+  pub uncut : is_uncut (purpose_of x) ≡ true → (answers.left ≡ []) × (authorities.left ≡ []) × (additionals.left ≡ [])
 
 -- A message that was written again holds items of the other, with its id and its flags, and with TC if a record is missing. It has at
 -- most so many octets.

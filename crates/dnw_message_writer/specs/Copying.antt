@@ -1,11 +1,12 @@
 -- Records and messages that were read, written again (RFC 2181, sections 5 and 9; RFC 6891, section 6.1.1).
-use Rattle.std.specs.Prelude.{◌≡◌, ◌≢◌, ℕ, None, Some, ◌+◌, ◌/◌, ◌<◌, ◌≤◌, ◌^◌, ◌==◌, ◌&&◌, ◌||◌, ◌⊎◌, nat_le, not, min, if◌then◌else◌, Bool, true, false, List, [], ◌∷◌, ◌++◌, filter, length, take}
+use Rattle.std.specs.Prelude.{◌≡◌, ◌≢◌, ℕ, None, Some, ◌+◌, ◌<◌, ◌≤◌, ◌^◌, ◌==◌, ◌&&◌, ◌||◌, ◌⊎◌, nat_le, not, min, if◌then◌else◌, Bool, true, false, List, [], ◌∷◌, ◌++◌, drop, filter, length, take}
 use Rattle.std.specs.List.{AllByRecursion}
 use Rattle.dnw_base.specs.DnsClasses.{class_code}
 use Rattle.dnw_base.specs.Limits.{max_pointers}
 use Rattle.dnw_base.specs.Names.{AreLabels, encoded_size, lower}
 use Rattle.dnw_base.specs.RecordTypes.{type_code}
 use Rattle.dnw_record.specs.DataCopies.{Copies, FailsToCopy, data_start, record_kinds}
+use Rattle.dnw_record.specs.DataPieces.{IsData}
 use Rattle.dnw_record.specs.DataPointers.{TakesAllPointers}
 use Rattle.dnw_record.specs.Records.{RecordValue, data_octets}
 use Rattle.dnw_record.specs.declared.rdata.RDataError.TheVariants.{Field}
@@ -17,10 +18,11 @@ use Rattle.dnw_message_read.specs.declared.edns.EdnsError.{EdnsError}
 use Rattle.dnw_message_writer.specs.Hints.{slot_of}
 use Rattle.dnw_message_writer.specs.Items.{IsQuestion, ItemForm, ItemPast, opt_code, question_past}
 use Rattle.dnw_message_writer.specs.Listed.{data_form, data_past}
+use Rattle.dnw_message_writer.specs.Needs.{has_left_required, is_uncut, purpose_of}
 use Rattle.dnw_message_writer.specs.Replies.{field_at}
 use Rattle.dnw_message_writer.specs.Sets.{AddsSet, cut_off}
 use Rattle.dnw_message_writer.specs.Standing.{first_item}
-use Rattle.dnw_message_writer.specs.States.{BeginsMessage, FailsToAdd}
+use Rattle.dnw_message_writer.specs.States.{BeginsMessage, FailsToAdd, count_in_header}
 use Rattle.dnw_message_writer.specs.declared.copying.CopyError.{CopyError}
 use Rattle.dnw_message_writer.specs.declared.copying.CopyError.TheVariants as errors
 use Rattle.dnw_message_writer.specs.declared.section.Section.{Section}
@@ -53,14 +55,19 @@ copied_past x = record {
       × (data_past x.owner (type_code x.record_type) (class_code x.class) x.ttl own).goes limit b near hints;
 }
 
--- Why a record of a message is not added: its data are none of its class and type, or it has no room, or memory ran out.
+-- The data of a record stand in their message with every name whole: none has a pointer.
+abbrev pub StandWhole : RecordValue → Type 0
+StandWhole x = IsData (record_kinds x) (drop (data_start x).index (data_start x).bytes)
+
+-- Why a record of a message is not added: its data are none of its class and type, or it has no room, or memory ran out, which is not
+-- needed if its data stand whole.
 abbrev pub FailsToAddCopy : Section → RecordValue → WriterState → List ℕ → CopyError → Type 0
 FailsToAddCopy s x w m (errors.Data offset error) =
     (offset ≡ x.start) × FailsToCopy (record_kinds x) (data_start x) (Field error)
 FailsToAddCopy s x w m (errors.Edns error) = ⊥
 FailsToAddCopy s x w m (errors.Write error) = FailsToAdd s (copied_past x) w m error
 FailsToAddCopy s x w m errors.TooManyPointers = ⊥
-FailsToAddCopy s x w m errors.Memory = Unit {0}
+FailsToAddCopy s x w m errors.Memory = StandWhole x → ⊥
 
 -- So is a question.
 abbrev pub query_form : QueryValue → ItemForm
@@ -138,7 +145,7 @@ covers_no_type octets = nat_le 2 (length octets) && (field_at octets 0 == 0)
 abbrev pub signs_message : RecordValue → Bool
 signs_message x = (type_code x.record_type == tsig_code) || ((type_code x.record_type == sig_code) && covers_no_type (data_octets x))
 
--- A record that a message has to have, after its other records: OPT, or a signature of the message.
+-- A record that is held back for, and comes after the others: OPT, or a signature of the message.
 abbrev pub is_held : RecordValue → Bool
 is_held x = (type_code x.record_type == opt_code) || signs_message x
 
@@ -154,25 +161,30 @@ sets_of section xs = xs
 abbrev pub own_octets : RecordValue → ℕ
 own_octets x = encoded_size x.owner + 10 + x.len
 
--- so many octets, and those of the records that a message has to have
+-- so many octets, and those of the records that come last
 abbrev pub held_from : ℕ → List RecordValue → ℕ
 held_from n [] = n
 held_from n (x ∷ xs) = held_from (if is_held x then min (n + own_octets x) 18446744073709551615 else n) xs
 
--- The message is a response to a query (QR is set, and the operation is 0), and has answers: its other records only go with these.
-abbrev pub has_answers : List RecordValue → Bool
-has_answers [] = false
-has_answers (x ∷ xs) = true
+-- the records of a section that are left out: those after as many as the message has
+abbrev pub left_out_of : Section → List RecordValue → List ℕ → List RecordValue
+left_out_of s xs m = drop (count_in_header s m) (sets_of s xs)
 
-abbrev pub is_answer : MessageValue → Bool
-is_answer m = (flags_of m.header.metadata / 2 ^ 11 == 16) && has_answers m.answers
+-- A record that it has to have is left out.
+abbrev pub lacks_required : MessageValue → List ℕ → Bool
+lacks_required x m =
+    has_left_required (purpose_of x) (left_out_of Answers x.answers m) (left_out_of Authorities x.authorities m) (left_out_of Additionals x.additionals m)
 
--- A record is missing that the message was to have (RFC 2181, section 9): of the answers, or, unless it only goes with answers, of a
--- later section.
-abbrev pub is_missing : MessageValue → Bool → Bool → Bool → Bool
-is_missing m answers authorities additionals = not answers || (not (authorities && additionals) && not (is_answer m))
+-- All records are added, or some are left out, as may be of this message. Whether one is missing that it has to have.
+abbrev pub Misses : MessageValue → List ℕ → Bool → Bool → Type 0
+Misses x m true missing = missing ≡ false
+Misses x m false missing = (is_uncut (purpose_of x) ≡ false) × (missing ≡ lacks_required x m)
 
--- A message begins with the header and the questions of another, and holds back the octets of the records that it has to have.
+-- Not all are, of a message that is never cut.
+abbrev pub MayNotMiss : MessageValue → Bool → CopyError → Type 0
+MayNotMiss x all e = (all ≡ false) × (is_uncut (purpose_of x) ≡ true) × (e ≡ errors.Write NoRoom)
+
+-- A message begins with the header and the questions of another, and holds back the octets of the records that come last.
 pub record CopiesQuestions (x : MessageValue) (max_size : ℕ) (old : List ℕ) (w : WriterState) (m : List ℕ) : Type 0 where
   pub first : WriterState
   pub begun : List ℕ
@@ -182,7 +194,7 @@ pub record CopiesQuestions (x : MessageValue) (max_size : ℕ) (old : List ℕ) 
   pub begins : BeginsMessage x.header.metadata.id (flags_of x.header.metadata) max_size old first begun
   pub adds : AddsSet Queries query_form x.queries (record first { reserved = held_from 0 x.additionals }) begun w m
 
--- Its records are added, but for those that it has to have: section by section, and set by set. Whether one is missing.
+-- Its records are added, but for those that come last: section by section, and set by set. Whether one is missing that it has to have.
 pub record CopiesSections (x : MessageValue) (w : WriterState) (m : List ℕ) (v : WriterState) (n : List ℕ) (missing : Bool) : Type 0 where
   pub all_answers : Bool
   pub answered : WriterState
@@ -194,9 +206,9 @@ pub record CopiesSections (x : MessageValue) (w : WriterState) (m : List ℕ) (v
   pub authorities : CopiesSets Authorities x.authorities answered answered_by led led_by all_authorities
   pub all_additionals : Bool
   pub additionals : CopiesSets Additionals (sets_of Additionals x.additionals) led led_by v n all_additionals
-  pub missing_is : missing ≡ is_missing x all_answers all_authorities all_additionals
+  pub missing_is : Misses x n (all_answers && (all_authorities && all_additionals)) missing
 
--- The records that it has to have are added, in the octets that were held back.
+-- The records that come last are added, in the octets that were held back.
 abbrev pub CopiesHeld : MessageValue → WriterState → List ℕ → WriterState → List ℕ → Type 0
 CopiesHeld x w m v n = AddsSet Additionals copied_form (held_in x.additionals) (record w { reserved = 0 }) m v n
 
@@ -204,7 +216,7 @@ CopiesHeld x w m v n = AddsSet Additionals copied_form (held_in x.additionals) (
 abbrev pub FollowsFew : MessageValue → Type 0
 FollowsFew x = (left : ℕ) × TakesAllPointers (records_of x) max_pointers (Some left)
 
--- A message is written again, in at most so many octets. If a record is missing, TC is set.
+-- A message is written again, in at most so many octets. If a record is missing that it has to have, TC is set.
 pub record CopiesMessage (x : MessageValue) (max_size : ℕ) (old : List ℕ) (w : WriterState) (new : List ℕ) : Type 0 where
   pub few : FollowsFew x
   pub asked : WriterState
@@ -232,7 +244,7 @@ pub record FailsQuestions (x : MessageValue) (max_size : ℕ) (old : List ℕ) (
   pub begins : BeginsMessage x.header.metadata.id (flags_of x.header.metadata) max_size old first begun
   pub stops : StopsAmong Queries query_form FailsToAddQuery x.queries (record first { reserved = held_from 0 x.additionals }) begun e
 
--- A record of a section is not added, for another reason than room.
+-- A record of a section is not added, for another reason than room; or one has no room, and the message is never cut.
 pub data FailsSections (x : MessageValue) (w : WriterState) (m : List ℕ) (e : CopyError) : Type 0 where
   in_answers : FailsSets Answers e x.answers w m → FailsSections x w m e
   in_authorities : (v : WriterState) (n : List ℕ) (all : Bool) → CopiesSets Answers x.answers w m v n all
@@ -240,14 +252,18 @@ pub data FailsSections (x : MessageValue) (w : WriterState) (m : List ℕ) (e : 
   in_additionals : (v u : WriterState) (n o : List ℕ) (all more : Bool) → CopiesSets Answers x.answers w m v n all
       → CopiesSets Authorities x.authorities v n u o more → FailsSets Additionals e (sets_of Additionals x.additionals) u o
       → FailsSections x w m e
+  cut : (v u t : WriterState) (n o p : List ℕ) (all more most : Bool) → CopiesSets Answers x.answers w m v n all
+      → CopiesSets Authorities x.authorities v n u o more → CopiesSets Additionals (sets_of Additionals x.additionals) u o t p most
+      → MayNotMiss x (all && (more && most)) e → FailsSections x w m e
 
--- A record that the message has to have is not added.
+-- A record that comes last is not added.
 abbrev pub FailsHeld : MessageValue → WriterState → List ℕ → CopyError → Type 0
 FailsHeld x w m e =
     StopsAmong Additionals copied_form (FailsToAddCopy Additionals) (held_in x.additionals) (record w { reserved = 0 }) m e
 
--- What it says by EDNS breaks a rule, or names in its data follow more pointers than are allowed, or it has no room for its header, its questions or the records that it has to have, or the data
--- of a record are none of its class and type, or memory ran out.
+-- What it says by EDNS breaks a rule, or names in its data follow more pointers than are allowed, or it has no room for its header, its
+-- questions or the records that come last, or for any record if it is never cut, or the data of a record are none of its class and
+-- type, or memory ran out.
 abbrev pub FailsToCopyMessage : MessageValue → ℕ → List ℕ → CopyError → Type 0
 FailsToCopyMessage x max_size old e =
     ((error : EdnsError) × FailsEdns x error × (e ≡ errors.Edns error))

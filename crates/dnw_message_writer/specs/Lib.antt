@@ -10,6 +10,7 @@ pub mod Inside
 pub mod Items
 pub mod Listed
 pub mod NameLaws
+pub mod Needs
 pub mod Pieces
 pub mod Queries
 pub mod ReadItems

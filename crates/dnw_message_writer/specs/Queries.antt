@@ -36,7 +36,7 @@ module _ (id flags max_size : ℕ) (name : List (List ℕ)) (query_type class : 
   -- There is no room for the header, for the question, or for the size.
   abbrev pub FailsToQuery : WriteError → Type 0
   FailsToQuery e =
-      ((length old < first_item) × (e ≡ NoRoom))
+      (((length old < first_item) ⊎ (max_size < first_item)) × (e ≡ NoRoom))
       ⊎ ((w : WriterState) × (begun : List ℕ) × BeginsMessage id flags max_size old w begun
       × (FailsToAdd Queries (question_past slot_of name) w begun e
       ⊎ ((v : WriterState) × (asked : List ℕ)

@@ -84,7 +84,7 @@ BeginsAsked query id flags max_size old after new =
 -- There is no room for the header, or for the question.
 abbrev pub FailsToBeginAsked : Option QueryValue → ℕ → ℕ → ℕ → List ℕ → WriteError → Type 0
 FailsToBeginAsked query id flags max_size old e =
-    ((length old < first_item) × (e ≡ NoRoom))
+    (((length old < first_item) ⊎ (max_size < first_item)) × (e ≡ NoRoom))
     ⊎ ((q : QueryValue) × (query ≡ Some q) × (w : WriterState) × (between : List ℕ) × BeginsMessage id flags max_size old w between
     × FailsToAdd Queries (question_past slot_of q.name) w between e)
 

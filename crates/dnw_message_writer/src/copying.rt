@@ -1,9 +1,9 @@
 //! Records and messages that were read, written again.
-ghost use Rattle.std.specs.Prelude.{◌≡◌, ◌∷◌, ◌<◌, ◌≤◌, ◌^◌, ◌↔◌, [], length, replicate, take, IfErr, IfOk, IfSome, IsTrue, MatchOption, OnErr, OnOk};
+ghost use Rattle.std.specs.Prelude.{◌≡◌, ◌∷◌, ◌<◌, ◌≤◌, ◌^◌, ◌↔◌, [], length, replicate, take, IfErr, IfNone, IfOk, IfSome, IsTrue, MatchOption, OnErr, OnOk};
 ghost use Rattle.dnw_base.specs.Names.{AreLabels, lower};
 ghost use Rattle.dnw_record.specs.DataCopies.{Copies, data_start, record_kinds};
 ghost use Rattle.dnw_message_read.specs.Headers.{flags_of};
-ghost use Rattle.dnw_message_writer.specs.Copying.{AreOfOneSet, CopiesHeld, CopiesMessage, CopiesQuestions, CopiesSections, CopiesSets, FailsHeld, FailsQuestions, FailsSections, FailsSets, FailsToAddCopy, FailsToAddQuery, FailsToCopyMessage, StopsAmong, StopsInSet, copied_form, covers_no_type, held_from, copied_past, is_answer, is_held, is_missing, own_octets, query_form, sets_of, signs_message};
+ghost use Rattle.dnw_message_writer.specs.Copying.{AreOfOneSet, CopiesHeld, CopiesMessage, CopiesQuestions, CopiesSections, CopiesSets, FailsHeld, FailsQuestions, FailsSections, FailsSets, FailsToAddCopy, FailsToAddQuery, FailsToCopyMessage, StandWhole, StopsAmong, StopsInSet, copied_form, covers_no_type, held_from, copied_past, is_held, own_octets, query_form, sets_of, signs_message};
 ghost use Rattle.dnw_message_writer.specs.Inside.CopiedSets.{AddsFirstSet, first_of};
 ghost use Rattle.dnw_message_writer.specs.Inside.Taken.{IsCopiedIn};
 ghost use Rattle.dnw_message_writer.specs.Inside.Turns.{KeptCount};
@@ -15,6 +15,7 @@ ghost use Rattle.dnw_message_writer.specs.declared.section.Section.TheVariants a
 
 use crate::data::pieces_of;
 use crate::hints::SLOTS;
+use crate::missing::{are_all, what_is_missing};
 use crate::names::put_at;
 use crate::pieces::Piece;
 use crate::reply::field_at;
@@ -30,13 +31,11 @@ use dnw_message_read::edns::EdnsError;
 use dnw_message_read::items::{Queries, Records};
 use dnw_message_read::message::MessageRef;
 use dnw_name::name_ref::NameRef;
+use dnw_name_order::order::eq_labels;
 use dnw_record::rdata::{RData, RDataError};
 use dnw_record::record_ref::{FIXED_SIZE, RecordRef};
 use std::alloc::Global;
 use thiserror::Error;
-
-/// The first five bits of a header's flags, QR and the operation, of a response to a query.
-const RESPONSE_TO_QUERY: u16 = 16;
 
 /// Why a record or a message is not written again.
 #[derive(Debug, Drop, Error)]
@@ -84,7 +83,7 @@ impl WriterState {
     /// those that may be compressed are (RFC 3597, section 4).
     ///
     /// It fails with `Data` if its data are no fields of its class and type, and with `Memory` if an allocation fails. It allocates
-    /// only if a name in the data that may not be compressed has a pointer.
+    /// only if a name in the data that may not be compressed has a pointer, and so never fails with `Memory` if no name has one.
     #[inline(always)]
     pub fn record_of(
         &mut self,
@@ -138,6 +137,7 @@ impl WriterState {
         section: Section,
         item: &RecordRef<'_>,
     ) -> Result<(), CopyError>
+        requires { StandWhole item.now → ⊥ }
         ensures ok { OnOk result (AddsItem section (copied_form item.now) self.old message.old self.new message.new) }
         ensures err { IfErr result (FailsToAddCopy section item.now self.old message.old) }
         ensures same { OnErr result ((self.new ≡ self.old) × (take self.old.end message.new ≡ take self.old.end message.old)) }
@@ -253,14 +253,16 @@ impl WriterState {
     /// Writes a message that was read again, with compression, in at most `max_size` octets: its header, its questions, and its
     /// records, section by section and set by set.
     ///
-    /// A set that has no room is left out whole, and so are the later ones of its section. If one is left out, TC is set (RFC 2181,
-    /// section 9), unless it only goes with the answers of a response. Octets are held back for the records that the message has to
-    /// have: an `OPT` record, and a signature of the message, TSIG or SIG(0). These come last, and are never left out.
+    /// A set that has no room is left out whole, and so are the later ones of its section. If a record is left out that the message
+    /// has to have, TC is set (RFC 2181, section 9): any answer; what denies or refers in the authority section, with its signatures;
+    /// and the addresses of servers below a cut. `specs/Needs.antt` has each case. A request, or part of a transfer, is never cut.
+    /// Octets are held back for an `OPT` record, and for a signature of the message, TSIG or SIG(0). These come last, and are never
+    /// left out.
     ///
     /// It fails with `Edns` if the message breaks a rule of EDNS, as `MessageRef::edns` reports it; with `TooManyPointers` if the names in
     /// the data of its records follow more than 65,536 pointers in all; with `Data` if the data of a record are no fields of its class
-    /// and type; and with `Write` if the header, the questions and the records that it has to have have no
-    /// room. If it fails, the state is unchanged, but the octets of the message may have changed.
+    /// and type; and with `Write` if the header, the questions and the records that come last have no room, or any record of a message
+    /// that is never cut. If it fails, the state is unchanged, but the octets of the message may have changed.
     pub fn copy(
         &mut self,
         alloc: Global,
@@ -340,7 +342,8 @@ impl WriterState {
 
     /// Begins a message in a buffer that has room for a header.
     fn begin_copy(&mut self, message: &mut [u8], id: u16, flags: u16, max_size: usize)
-        requires { 12 ≤ length message.old }
+        requires enough { 12 ≤ max_size }
+        requires room { 12 ≤ length message.old }
         ensures begins { BeginsMessage id flags max_size message.old self.new message.new }
         ensures fit { (id < 2 ^ 16) × (flags < 2 ^ 16) }
     {
@@ -384,13 +387,14 @@ impl WriterState {
         self.question(message, name.wire_labels(&mut room), query_type, class)
     }
 
-    /// Adds the records of a message, but for those that it has to have. Returns `true` if one is missing.
+    /// Adds the records of a message, but for those that come last. Returns `true` if one is left out that the message has to have.
     fn copy_sections(
         &mut self,
         alloc: Global,
         message: &mut [u8],
         source: &MessageRef<'_>,
     ) -> Result<bool, CopyError>
+        requires { 12 ≤ length message.old }
         ensures ok { IfOk result (CopiesSections source.now self.old message.old self.new message.new) }
         ensures err { IfErr result (FailsSections source.now self.old message.old) }
     {
@@ -416,7 +420,7 @@ impl WriterState {
             Ok(all) => all,
             Err(error) => return Err(error),
         };
-        Ok(is_missing(source, answers, authorities, additionals))
+        what_is_missing(source, message, are_all(answers, authorities, additionals))
     }
 
     /// Adds records to a section, set by set, up to the first set that has no room. Returns `true` if all are added.
@@ -488,7 +492,7 @@ impl WriterState {
             return Err(error);
         }
         'set: while let Some(record) = next_of(section, records) {
-            if !is_of_set(alloc, first, &record) {
+            if !is_of_set(first, &record) {
                 return Ok(Some(record));
             }
             let added = self.record_of(alloc, message, section, &record);
@@ -499,7 +503,7 @@ impl WriterState {
         Ok(None)
     }
 
-    /// Adds the records that a message has to have, after all others.
+    /// Adds the records that come last.
     fn copy_held(
         &mut self,
         alloc: Global,
@@ -525,9 +529,10 @@ impl WriterState {
 
 /// Returns the next record of a section that is added set by set.
 #[inline(always)]
-fn next_of<'m>(section: Section, records: &mut Records<'m>) -> Option<RecordRef<'m>>
+pub(crate) fn next_of<'m>(section: Section, records: &mut Records<'m>) -> Option<RecordRef<'m>>
     ensures next { MatchOption result (sets_of section records.old ≡ []) (λ x. sets_of section records.old ≡ x ∷ sets_of section records.new) }
     ensures fewer { IfSome result (λ x. length records.new < length records.old) }
+    ensures over { IfNone result (sets_of section records.new ≡ []) }
 {
     if section != Section::Additionals {
         return records.next();
@@ -542,23 +547,35 @@ fn next_of<'m>(section: Section, records: &mut Records<'m>) -> Option<RecordRef<
 
 /// Returns `true` if a record is of the set of the first one.
 #[inline(always)]
-fn is_of_set(alloc: Global, first: &RecordRef<'_>, item: &RecordRef<'_>) -> bool
+pub fn is_of_set(first: &RecordRef<'_>, item: &RecordRef<'_>) -> bool
     ensures { IsTrue result ↔ AreOfOneSet first.now item.now }
 {
     u16::from(first.record_type()) == u16::from(item.record_type())
         && u16::from(first.class()) == u16::from(item.class())
-        && are_alike(alloc, first.owner(), item.owner())
+        && are_alike(first.owner(), item.owner())
 }
 
 /// Returns `true` if two names are the same, ignoring case. Mostly their wire forms are.
-fn are_alike(alloc: Global, some: &NameRef<'_>, other: &NameRef<'_>) -> bool
+fn are_alike(some: &NameRef<'_>, other: &NameRef<'_>) -> bool
     ensures { IsTrue result ↔ (lower some.now ≡ lower other.now) }
 {
     if has_form_of(some, other) {
         return true;
     }
-    let name = some.to_name(alloc).unwrap();
-    other.eq_name(&name)
+    are_alike_but_for_case(some, other)
+}
+
+/// Returns `true` if two names are the same, ignoring case.
+#[inline(never)]
+fn are_alike_but_for_case(some: &NameRef<'_>, other: &NameRef<'_>) -> bool
+    ensures { IsTrue result ↔ (lower some.now ≡ lower other.now) }
+{
+    let mut room = [0; MAX_NAME];
+    let mut other_room = [0; MAX_NAME];
+    eq_labels(
+        some.wire_labels(&mut room),
+        other.wire_labels(&mut other_room),
+    )
 }
 
 /// Returns `true` if two names have the same wire form. Mostly both stand in one piece.
@@ -594,7 +611,7 @@ fn are_same(some: &[u8], others: &[u8]) -> bool
     some == others
 }
 
-/// Returns `true` for a record that a message has to have: what it says by EDNS (RFC 6891), and a signature of the message.
+/// Returns `true` for a record that comes after the others: what a message says by EDNS (RFC 6891), or a signature of it.
 #[inline(always)]
 fn is_held(item: &RecordRef<'_>) -> bool
     ensures { result ≡ is_held item.now }
@@ -621,7 +638,7 @@ fn covers_no_type(octets: &[u8]) -> bool
     octets.len() >= 2 && field_at(octets, 0) == 0
 }
 
-/// Returns how many octets the records have that a message has to have.
+/// Returns how many octets the records have that come last.
 fn held_octets(mut records: Records<'_>) -> usize
     ensures { result ≡ held_from 0 records.entry }
 {
@@ -642,23 +659,9 @@ fn own_octets(item: &RecordRef<'_>) -> usize
 }
 
 /// Returns the flags of a message, with the reserved one clear.
-fn flags_of(source: &MessageRef<'_>) -> u16
+pub(crate) fn flags_of(source: &MessageRef<'_>) -> u16
     ensures { result ≡ flags_of source.now.header.metadata }
 {
     let octets = source.header().to_octets();
     u16::from_be_bytes([octets[2], octets[3]])
-}
-
-/// Returns `true` if a record is missing that a message was to have.
-fn is_missing(source: &MessageRef<'_>, answers: bool, authorities: bool, additionals: bool) -> bool
-    ensures { result ≡ is_missing source.now answers authorities additionals }
-{
-    !answers || (!(authorities && additionals) && !is_answer(source))
-}
-
-/// Returns `true` for the response to a query, with answers.
-fn is_answer(source: &MessageRef<'_>) -> bool
-    ensures { result ≡ is_answer source.now }
-{
-    flags_of(source) / 2048 == RESPONSE_TO_QUERY && source.answers().next().is_some()
 }

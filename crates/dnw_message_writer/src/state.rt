@@ -1,5 +1,5 @@
 //! Messages, written item by item.
-ghost use Rattle.std.specs.Prelude.{◌≡◌, ◌<◌, ◌≤◌, ◌+◌, length, take, IfOk, IfErr, OnOk, OnErr};
+ghost use Rattle.std.specs.Prelude.{◌≡◌, ◌<◌, ◌≤◌, ◌⊎◌, ◌+◌, length, take, IfOk, IfErr, OnOk, OnErr};
 ghost use Rattle.dnw_base.specs.Limits.{max_message};
 ghost use Rattle.dnw_message_writer.specs.CompressedNames.{put_at};
 ghost use Rattle.dnw_message_writer.specs.Hints.{slot_of};
@@ -43,7 +43,8 @@ pub struct WriterState {
 }
 
 impl WriterState {
-    /// Begins a message: puts a header without items at the start of the buffer (RFC 1035, section 4.1.1).
+    /// Begins a message: puts a header without items at the start of the buffer (RFC 1035, section 4.1.1). It fails with `NoRoom` if the
+    /// buffer or the maximum has none for a header.
     pub fn begin(
         &mut self,
         message: &mut [u8],
@@ -52,10 +53,10 @@ impl WriterState {
         max_size: usize,
     ) -> Result<(), WriteError>
         ensures ok { OnOk result (BeginsMessage id flags max_size message.old self.new message.new) }
-        ensures err { IfErr result (λ e. (e ≡ NoRoom) × (length message.old < 12)) }
+        ensures err { IfErr result (λ e. (e ≡ NoRoom) × ((length message.old < 12) ⊎ (max_size < 12))) }
         ensures same { OnErr result ((self.new ≡ self.old) × (message.new ≡ message.old)) }
     {
-        if message.len() < FIRST_ITEM {
+        if message.len() < FIRST_ITEM || max_size < FIRST_ITEM {
             return Err(WriteError::NoRoom);
         }
         let id = id.to_be_bytes();
@@ -205,7 +206,7 @@ impl WriterState {
 
 /// Returns how many items the header says that a section has.
 #[inline(always)]
-fn count_of(message: &[u8], section: Section) -> u16
+pub(crate) fn count_of(message: &[u8], section: Section) -> u16
     requires { 12 ≤ length message.now }
     ensures { result ≡ count_in_header section message.now }
 {

@@ -1,5 +1,6 @@
 //! The data of records of other messages as pieces, without a copy of them.
-ghost use Rattle.std.specs.Prelude.{◌≡◌, ◌+◌, ◌≤◌, ◌∷◌, ◌++◌, [], List, length, IfSome, IsTrue};
+ghost use Rattle.std.specs.Prelude.{◌≡◌, ◌+◌, ◌≤◌, ◌∷◌, ◌++◌, [], List, length, IfNone, IfSome, IsTrue};
+ghost use Rattle.dnw_message_writer.specs.Copying.{StandWhole};
 ghost use Rattle.dnw_message_writer.specs.Inside.Splitting.{most_pieces};
 ghost use Rattle.dnw_message_writer.specs.Inside.Taken.{IsCopiedIn, TakesAsPieces};
 ghost use Rattle.dnw_message_writer.specs.declared.pieces.Piece.{Piece};
@@ -35,7 +36,7 @@ pub(crate) fn octets_in<'m>(item: &RecordRef<'m>) -> Option<Piece<'m>>
 /// put into `rooms`.
 ///
 /// It returns `None` if the data are no fields of their class and type, or if a name that may not be compressed has a pointer: then
-/// they are to be copied. Nothing is allocated.
+/// they are to be copied. It does not if the data stand whole. Nothing is allocated.
 #[inline(always)]
 pub(crate) fn pieces_in<'m, 'a>(
     item: &RecordRef<'m>,
@@ -43,15 +44,18 @@ pub(crate) fn pieces_in<'m, 'a>(
 ) -> Option<Pieces<'a>>
 where
     'm: 'a,
-    ensures { IfSome result (λ xs. IsCopiedIn item.now xs) }
+    ensures some { IfSome result (λ xs. IsCopiedIn item.now xs) }
+    ensures none { IfNone result (StandWhole item.now → ⊥) }
 {
+    let kinds = item.kinds();
+    let reader = item.data_decoder();
+    let octets = &reader.message()[reader.index()..];
+    let mut whole = Pieces::new();
+    if split(kinds, octets, &mut whole) {
+        return Some(whole);
+    }
     let mut pieces = Pieces::new();
-    if take(
-        item.kinds(),
-        item.data_decoder(),
-        rooms.as_mut_slice(),
-        &mut pieces,
-    ) {
+    if take(kinds, reader, rooms.as_mut_slice(), &mut pieces) {
         Some(pieces)
     } else {
         None

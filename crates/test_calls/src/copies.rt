@@ -101,12 +101,13 @@ fn copies_end_with_edns(rt: HostRuntime) -> Result<(), Fail> {
     Ok(())
 }
 
-/// A query with an address, an `OPT` record and a signature.
-const SIGNED: &[u8] = b"\0\x07\0\0\0\0\0\0\0\0\0\x03\x01a\0\0\x01\0\x01\0\0\0\0\0\x04\xc0\0\x02\x01\
+/// A response with an address, an `OPT` record and a signature.
+const SIGNED: &[u8] =
+    b"\0\x07\x80\0\0\0\0\0\0\0\0\x03\x01a\0\0\x01\0\x01\0\0\0\0\0\x04\xc0\0\x02\x01\
 \0\0\x29\x04\xd0\0\0\0\0\0\0\x01k\0\0\xfa\0\xff\0\0\0\0\0\x13\x01h\0\0\0\0\0\0\x01\x01\x2c\0\0\0\x07\0\0\0\0";
 
-/// It without the address, with TC.
-const WITHOUT_THE_ADDRESS: &[u8] = b"\0\x07\x02\0\0\0\0\0\0\0\0\x02\
+/// It without the address, which is no glue.
+const WITHOUT_THE_ADDRESS: &[u8] = b"\0\x07\x80\0\0\0\0\0\0\0\0\x02\
 \0\0\x29\x04\xd0\0\0\0\0\0\0\x01k\0\0\xfa\0\xff\0\0\0\0\0\x13\x01h\0\0\0\0\0\0\x01\x01\x2c\0\0\0\x07\0\0\0\0";
 
 #[test]
@@ -114,6 +115,40 @@ fn signatures_stay_last(rt: HostRuntime) -> Result<(), Fail> {
     let alloc = rt.alloc();
     assert_eq!(rt; copied(alloc, SIGNED, 512)?.as_slice(), SIGNED);
     assert_eq!(rt; copied(alloc, SIGNED, 71)?.as_slice(), WITHOUT_THE_ADDRESS);
+    Ok(())
+}
+
+/// The update of a zone: with a prerequisite, that a name is in use, and two additions (RFC 2136, section 2).
+const UPDATE: &[u8] = b"\0\x07\x28\0\0\x01\0\x01\0\x02\0\0\x01a\0\0\x06\0\x01\
+\x01b\xc0\x0c\0\xff\0\xff\0\0\0\0\0\0\x01c\xc0\x0c\0\x01\0\x01\0\0\0\0\0\x04\xc0\0\x02\x01\x01d\xc0\x0c\0\x01\0\x01\0\0\0\0\0\x04\xc0\0\x02\x02";
+
+/// Half of an update is another update, so a request is copied whole, or not at all.
+#[test]
+fn a_request_is_never_cut(rt: HostRuntime) -> Result<(), Fail> {
+    let alloc = rt.alloc();
+    assert_eq!(rt; copied(alloc, UPDATE, UPDATE.len())?.as_slice(), UPDATE);
+    for max_size in [12, 19, 33, 51, UPDATE.len() - 1] {
+        assert!(rt;
+            matches!(
+                copied(alloc, UPDATE, max_size),
+                Err(CopyError::Write(WriteError::NoRoom))
+            )
+        );
+    }
+    Ok(())
+}
+
+/// An answer with the servers of its zone, and what denies another (RFC 4035, section 3.1.3).
+const DENIED: &[u8] = b"\0\x07\x80\0\0\x01\0\x01\0\x01\0\0\x01a\0\0\x01\0\x01\
+\xc0\x0c\0\x01\0\x01\0\0\0\0\0\x04\xc0\0\x02\x01\xc0\x0c\0\x2f\0\x01\0\0\0\0\0\x06\x01a\0\0\x01\x40";
+
+/// TC is set if the answer loses its proof.
+#[test]
+fn what_denies_is_required(rt: HostRuntime) -> Result<(), Fail> {
+    let alloc = rt.alloc();
+    assert_eq!(rt; copied(alloc, DENIED, DENIED.len())?.as_slice(), DENIED);
+    let cut = copied(alloc, DENIED, DENIED.len() - 1)?;
+    assert_eq!(rt; (cut.len(), cut.as_slice()[2]), (35, 0x82));
     Ok(())
 }
 

@@ -1,5 +1,6 @@
 //! Why an entry of a zone file is not valid, and where.
 use crate::error::Error;
+use crate::StdError;
 use alloc::boxed::Box;
 use alloc::format;
 use alloc::string::String;
@@ -138,22 +139,13 @@ impl fmt::Debug for ZoneError {
 }
 
 /// Its source is the `std::io::Error` of a file that cannot be read, or the [`Error`] if memory runs out. An entry that is not
-/// valid has no source. Without the feature `std`, it is `core::error::Error`.
-#[cfg(feature = "std")]
-impl std::error::Error for ZoneError {
-    fn source(&self) -> Option<&(dyn std::error::Error + 'static)> {
+/// valid has no source.
+impl StdError for ZoneError {
+    fn source(&self) -> Option<&(dyn StdError + 'static)> {
         match self.0.cause.as_ref()? {
             Cause::Library(error) => Some(error),
+            #[cfg(feature = "std")]
             Cause::Io(error) => Some(error),
-        }
-    }
-}
-
-#[cfg(not(feature = "std"))]
-impl core::error::Error for ZoneError {
-    fn source(&self) -> Option<&(dyn core::error::Error + 'static)> {
-        match self.0.cause.as_ref()? {
-            Cause::Library(error) => Some(error),
         }
     }
 }
@@ -185,9 +177,10 @@ fn line_at(text: &[u8], offset: usize) -> String {
     let (before, after) = text.split_at(offset.min(text.len()));
     let before = &before[before.len().saturating_sub(SHOWN)..];
     let start = before.iter().rposition(|octet| *octet == b'\n').map_or(0, |feed| feed + 1);
-    let end = after.iter().take(SHOWN).position(|octet| *octet == b'\n').unwrap_or(after.len().min(SHOWN));
+    let after = &after[..after.len().min(SHOWN)];
+    let rest = &after[..after.iter().position(|octet| *octet == b'\n').unwrap_or(after.len())];
     let mut line = shown(&before[start..]);
-    line += &shown(after[..end].strip_suffix(b"\r").unwrap_or(&after[..end]));
+    line += &shown(rest.strip_suffix(b"\r").unwrap_or(rest));
     line
 }
 

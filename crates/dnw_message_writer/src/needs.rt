@@ -1,0 +1,182 @@
+//! What a message cannot do without, and what it may leave out if it has no room.
+//!
+//! Read `specs/Needs.antt` first: it has each case with its RFC.
+ghost use Rattle.std.specs.Prelude.{◌≡◌};
+ghost use Rattle.dnw_message_writer.specs.Needs.{with_asked, covers_servers, first_cut, is_of_address, is_asked, is_below, is_below_cut, is_glue, is_of_query, is_of_servers, is_request, is_required, is_required_in, is_transfer, is_uncut, purpose_by, holding};
+
+use crate::reply::field_at;
+use crate::section::Section;
+use dnw_base::limits::MAX_NAME;
+use dnw_base::record_type::RecordType;
+use dnw_name::name_ref::NameRef;
+use dnw_name_order::order::is_zone_of;
+use dnw_record::record_ref::RecordRef;
+
+/// What a message is for: what decides which of its records it cannot do without.
+///
+/// It is made of the flags, and then of the questions and the records, in their order.
+#[derive(Drop)]
+pub struct Purpose<'m> {
+    /// The flags of the header.
+    pub flags: u16,
+    /// The code of the type that the first question asks for.
+    pub asked: Option<u16>,
+    /// Whether a record of that type is among the answers.
+    pub has_data: bool,
+    /// The first NS of the authority section.
+    pub cut: Option<RecordRef<'m>>,
+}
+
+impl<'m> Purpose<'m> {
+    /// Creates that of a message with these flags, of which nothing else is known.
+    pub fn new(flags: u16) -> Self
+        ensures { result ≡ purpose_by flags }
+    {
+        Purpose {
+            flags,
+            asked: None,
+            has_data: false,
+            cut: None,
+        }
+    }
+
+    /// Takes a question of the message, by the code of its type.
+    pub fn ask(&mut self, query_type: u16)
+        ensures { self.new ≡ with_asked query_type self.old }
+    {
+        if self.asked.is_none() {
+            self.asked = Some(query_type);
+        }
+    }
+
+    /// Takes a record of a section of the message.
+    pub fn take(&mut self, section: Section, item: RecordRef<'m>)
+        ensures { self.new ≡ holding section item.entry self.old }
+    {
+        match section {
+            Section::Answers => {
+                let code = item.record_type().code();
+                self.has_data = self.has_data || is_asked(self.asked, code);
+            }
+            Section::Authorities => {
+                if self.cut.is_none() && item.record_type().code() == RecordType::NS.code() {
+                    self.cut = Some(item);
+                }
+            }
+            Section::Queries | Section::Additionals => {}
+        }
+    }
+
+    /// Returns `true` if nothing of the message is ever left out: it is a request, or part of a transfer.
+    pub fn is_uncut(&self) -> bool
+        ensures { result ≡ is_uncut self.now }
+    {
+        is_request(self.flags) || is_transfer(self.asked)
+    }
+
+    /// Returns `true` if the message has to have this record of a section.
+    pub fn is_required(&self, section: Section, item: &RecordRef<'_>) -> bool
+        ensures { result ≡ is_required section self.now item.now }
+    {
+        !is_of_query(self.flags) || self.is_required_in(section, item)
+    }
+
+    /// Returns `true` if the response to a query has to have this record of a section.
+    fn is_required_in(&self, section: Section, item: &RecordRef<'_>) -> bool
+        ensures { result ≡ is_required_in section self.now item.now }
+    {
+        match section {
+            Section::Queries | Section::Answers => true,
+            Section::Authorities => !(self.has_data && is_of_servers(item)),
+            Section::Additionals => !self.has_data && self.is_glue(item),
+        }
+    }
+
+    /// Returns `true` for an address at the cut or below it.
+    fn is_glue(&self, item: &RecordRef<'_>) -> bool
+        ensures { result ≡ is_glue self.now.cut item.now }
+    {
+        is_of_address(item) && self.is_below_cut(item)
+    }
+
+    /// Returns `true` if the owner of a record is at the cut or below it.
+    fn is_below_cut(&self, item: &RecordRef<'_>) -> bool
+        ensures { result ≡ is_below_cut self.now.cut item.now }
+    {
+        let Some(cut) = &self.cut else {
+            return false;
+        };
+        is_below(cut.owner(), item.owner())
+    }
+}
+
+/// Returns `true` if records of a type are asked for.
+fn is_asked(asked: Option<u16>, code: u16) -> bool
+    ensures { result ≡ is_asked asked code }
+{
+    let Some(asked) = asked else {
+        return false;
+    };
+    code == asked || asked == RecordType::ANY.code()
+}
+
+/// Returns `true` for the flags of a request.
+fn is_request(flags: u16) -> bool
+    ensures { result ≡ is_request flags }
+{
+    flags < 0x8000
+}
+
+/// Returns `true` if a transfer is asked for.
+fn is_transfer(asked: Option<u16>) -> bool
+    ensures { result ≡ is_transfer asked }
+{
+    let Some(asked) = asked else {
+        return false;
+    };
+    asked == RecordType::AXFR.code() || asked == RecordType::IXFR.code()
+}
+
+/// Returns `true` for the flags of a query, or of a response to one.
+fn is_of_query(flags: u16) -> bool
+    ensures { result ≡ is_of_query flags }
+{
+    flags / 2048 % 16 == 0
+}
+
+/// Returns `true` for the servers of a zone, and for what signs them.
+fn is_of_servers(item: &RecordRef<'_>) -> bool
+    ensures { result ≡ is_of_servers item.now }
+{
+    let code = item.record_type().code();
+    code == RecordType::NS.code()
+        || (code == RecordType::RRSIG.code() && covers_servers(item.rdata()))
+}
+
+/// Returns `true` if the type that the data of an RRSIG cover, which their first two octets are, is NS.
+fn covers_servers(octets: &[u8]) -> bool
+    ensures { result ≡ covers_servers octets.now }
+{
+    octets.len() >= 2 && field_at(octets, 0) == RecordType::NS.code()
+}
+
+/// Returns `true` for an address.
+fn is_of_address(item: &RecordRef<'_>) -> bool
+    ensures { result ≡ is_of_address item.now }
+{
+    let code = item.record_type().code();
+    code == RecordType::A.code() || code == RecordType::AAAA.code()
+}
+
+/// Returns `true` if the last labels of a name are those of a cut, ignoring case.
+#[inline(never)]
+fn is_below(cut: &NameRef<'_>, name: &NameRef<'_>) -> bool
+    ensures { result ≡ is_below cut.now name.now }
+{
+    let mut room = [0; MAX_NAME];
+    let mut other_room = [0; MAX_NAME];
+    is_zone_of(
+        cut.wire_labels(&mut room),
+        name.wire_labels(&mut other_room),
+    )
+}
