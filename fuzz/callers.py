@@ -1,19 +1,39 @@
 #!/usr/bin/env python3
 """Writes what the harness `calls` knows of each function of include/dns_names_wire.h, from the header alone.
 
-usage: fuzz/callers.py FILE        writes FILE, a header that fuzz/calls.c includes
+usage: fuzz/callers.py FILE NAME.. writes FILE, a header that fuzz/calls.c includes, with the functions of these names
        fuzz/callers.py             lists the functions, and which errors each can fail with
+       fuzz/callers.py --check     fails if a harness that calls a function is not there
 
 A function's parameters say what it takes, by their types and names; the comment before it says with which errors it fails, whether it
 allocates, and what it leaves unchanged. It fails at a function that has a parameter that it cannot make, or whose comment says of no
 error when it comes, and at a sentence of the header that it rests on and does not find. So no function of the header can be forgotten.
+
+With --check it looks at the harnesses of fuzz/run: each function is called by `calls`, and by one that knows what it returns, or the test
+below compares what it returns. It is part of `.ci/public-calls`.
 """
 
 import pathlib
 import re
 import sys
 
-HEADER = pathlib.Path(__file__).resolve().parent.parent / "include" / "dns_names_wire.h"
+ROOT = pathlib.Path(__file__).resolve().parent.parent
+HEADER = ROOT / "include" / "dns_names_wire.h"
+# Functions of which no harness has a model, and the test that compares what they return with what other implementations do.
+WITHOUT_MODEL = {
+    "dnw_is_reply_to": "c/test_messages.c",
+    "dnw_option_print": "fuzz/options.py",
+    "dnw_option_read": "fuzz/options.py",
+    "dnw_option_write": "fuzz/options.py",
+    "dnw_writer_edns": "c/test_writer.c",
+    "dnw_writer_fill": "c/test_writer.c",
+    "dnw_writer_query": "c/test_writer.c",
+    "dnw_writer_reply": "c/test_writer.c",
+    "dnw_zone_check": "c/test_zone.c",
+    "dnw_zone_put_origin": "c/test_zone.c",
+    "dnw_zone_put_record": "c/test_zone.c",
+    "dnw_zone_put_ttl": "c/test_zone.c",
+}
 NUMBERS = {"bool": 1, "uint8_t": 1, "uint16_t": 2, "uint32_t": 4, "size_t": 8, "int32_t": 4}
 # What holds the number of items that were stored in a buffer: a parameter, or a member of one.
 LENGTHS = ("len", "text_len", "data_len", "count", "owner_len")
@@ -150,8 +170,8 @@ def length_of(function, buffer, structs):
         if it.kind == "OBJECT" and it.type == "size_t" and it.name in wanted:
             return at, None
         if it.kind == "OBJECT":
-            for _, member, _ in structs.get(it.type.removeprefix("struct "), []):
-                if member in wanted:
+            for kind, member, _ in structs.get(it.type.removeprefix("struct "), []):
+                if kind == "size_t" and member in wanted:
                     return at, member
     if wanted != [""] and function.result == "uint32_t":
         stop(f"{function.name}: nothing has the length of what is stored in {buffer.name}")
@@ -236,20 +256,55 @@ def read_header():
     return listed, structs, failures, exceptions
 
 
-def main(words):
+def whole_table(wanted=None):
+    """The header that fuzz/calls.c includes, and the functions that it calls: all, or those that are wanted."""
     listed, structs, failures, exceptions = read_header()
-    if not words:
-        for it in listed:
-            print(it.name, *sorted(errors(it, listed, failures)))
-        return
+    called = [it for it in listed if wanted is None or it.name in wanted]
     names = {}
-    rows = [function_rows(it, listed, failures, structs, names, exceptions) for it in listed]
+    rows = [function_rows(it, listed, failures, structs, names, exceptions) for it in called]
     tables = [member_table(name, kind, structs) for name in structs for kind in ("bool", "size_t")]
     tables += [f"static const struct member whole_{kind}[] = {{{{0, sizeof({kind})}}, {{0, 0}}}};" for kind in ("bool", "size_t")]
     head = ["/* Made by fuzz/callers.py from include/dns_names_wire.h. */", '#include "calling.h"', '#include "dns_names_wire.h"', ""]
     parts = [*head, *tables, *(it for call, table, _ in rows for it in (call, table)), "static const struct function functions[] = {", *(row for *_, row in rows), "};"]
-    pathlib.Path(words[0]).write_text("\n".join([*parts, f"enum {{ FUNCTIONS = {len(listed)}, NAMES = {len(names)} }};", ""]), encoding="utf-8")
+    return "\n".join([*parts, f"enum {{ FUNCTIONS = {len(called)}, NAMES = {len(names)} }};", ""]), [it.name for it in listed]
+
+
+def called(text):
+    """The functions of the library that a source in C names, but for what a comment does."""
+    return set(re.findall(r"\bdnw_\w+\b", re.sub(r"/\*.*?\*/", "", text, flags=re.S)))
+
+
+def check():
+    """The functions of the header, those that a harness with a model calls, and what is wrong."""
+    table, listed = whole_table()
+    folder = ROOT / "fuzz"
+    run = re.search(r"^\[ .* \] \|\| harnesses=\((.*)\)$", (folder / "run").read_text(encoding="utf-8"), re.M)
+    harnesses = run[1].split() if run else []
+    sources = {it.stem: it.read_text(encoding="utf-8") for it in folder.glob("*.c") if "LLVMFuzzerTestOneInput(" in it.read_text(encoding="utf-8")}
+    faults = [f"fuzz/run has no harness {it}" for it in sorted(set(sources) - set(harnesses))]
+    faults += [f"fuzz/{it}.c is not there, which fuzz/run names" for it in sorted(set(harnesses) - set(sources))]
+    is_included = '#include "callers.h"' in sources.get("calls", "") and "functions[index]" in sources["calls"]
+    faults += [f"no harness calls {it}" for it in listed if not is_included or f".call = call_{it}," not in table or f"return {it}(" not in table]
+    modelled = set().union(*(called(text) for name, text in sources.items() if name in harnesses and name != "calls")) & set(listed)
+    faults += [f"no harness with a model calls {it}, and WITHOUT_MODEL does not have it" for it in listed if it not in modelled | set(WITHOUT_MODEL)]
+    faults += [f"WITHOUT_MODEL has {it}, which a harness with a model calls, or which is gone" for it in WITHOUT_MODEL if it in modelled or it not in listed]
+    faults += [f"{test} does not call {it}" for it, test in WITHOUT_MODEL.items() if it not in called((ROOT / test).read_text(encoding="utf-8"))]
+    return listed, modelled, faults
+
+
+def main(words):
+    if not words:
+        listed, _, failures, _ = read_header()
+        for it in listed:
+            print(it.name, *sorted(errors(it, listed, failures)))
+    elif words == ["--check"]:
+        listed, modelled, faults = check()
+        print("\n".join([*faults, f"callers: {len(listed)} functions, {len(modelled)} of them in a harness with a model; {len(faults)} faults"]))
+        return 1 if faults else 0
+    else:
+        pathlib.Path(words[0]).write_text(whole_table(words[1:])[0], encoding="utf-8")
+    return 0
 
 
 if __name__ == "__main__":
-    main(sys.argv[1:])
+    sys.exit(main(sys.argv[1:]))

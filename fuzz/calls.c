@@ -14,6 +14,18 @@
 
 #include <sanitizer/asan_interface.h>
 
+/* The function that is called. */
+static const char *called = "no function";
+
+#undef CHECK
+#define CHECK(fact)                                                                     \
+    do {                                                                                \
+        if (!(fact)) {                                                                  \
+            fprintf(stderr, "%s:%d: %s: failed: %s\n", __FILE__, __LINE__, called, #fact); \
+            abort();                                                                    \
+        }                                                                               \
+    } while (0)
+
 enum { CALLS = 24, LONGEST = 66000, OBJECT_SIZE = 2048, OUTPUTS = 4, RECENT = 16, SOME_ITEMS = 4096, BESIDE = 64, FIRST_FILLER = 0xAA, OTHER_FILLER = 0x55 };
 
 /* What earlier calls left. */
@@ -245,6 +257,7 @@ static void expect_unchanged(const struct function *function, bool is_other, uin
 /* Makes the call with the arguments in the first place or in the other, and sees that it does what every function does. */
 static uint64_t call_at(const struct function *function, bool is_other, size_t refused)
 {
+    called = function->name;
     put_arguments(function, is_other);
     refuse(refused);
     uint64_t result = function->call(arguments);

@@ -195,7 +195,7 @@ static uint32_t writer_edns(void)
     spoil();
     return dnw_writer_edns(output, 65535, 0, 1232, 0, 0, false, OWNER, 468, &writer);
 }
-static uint32_t writer_reply(void) { return dnw_writer_reply(output, sizeof output, 65535, IN, 0, &writer, &edns); }
+static uint32_t writer_reply(void) { return dnw_writer_reply(output, sizeof output, 65535, IN, 0, 0, &writer, &edns); }
 static uint32_t record_data_name(void) { return dnw_record_data_name(IN, mark, made_len - mark, OUT, &len); }
 static uint32_t name_prepend(void) { return dnw_name_prepend_label((const uint8_t *)"a", 1, IN, OUT, &len); }
 static uint32_t nsec3_covers(void) { return dnw_nsec3_covers(IN, IN, IN, &is_it); }

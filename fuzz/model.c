@@ -518,7 +518,7 @@ bool model_is_uncut(const struct model_purpose *purpose)
     return (purpose->flags & 0x8000) == 0 || purpose->asked == DNW_TYPE_AXFR || purpose->asked == DNW_TYPE_IXFR;
 }
 
-bool model_is_required(const struct model_purpose *purpose, int section, const struct model_name *owner, uint16_t type,
+bool model_is_required(struct model_purpose *purpose, int section, const struct model_name *owner, uint16_t type,
                        const uint8_t *data, size_t data_len)
 {
     if ((purpose->flags & 0x7800) != 0 || section == 1)
@@ -527,5 +527,7 @@ bool model_is_required(const struct model_purpose *purpose, int section, const s
         return !purpose->has_data && (type == DNW_TYPE_A || type == DNW_TYPE_AAAA) && purpose->has_cut &&
                model_in_zone(owner, &purpose->cut);
     bool signs_ns = type == DNW_TYPE_RRSIG && data_len >= 2 && model_number(data, 2) == DNW_TYPE_NS;
-    return !purpose->has_data || (type != DNW_TYPE_NS && !signs_ns);
+    bool is_extra = type == DNW_TYPE_NS || (signs_ns && purpose->server_out);
+    purpose->server_out |= type == DNW_TYPE_NS;
+    return !purpose->has_data || !is_extra;
 }

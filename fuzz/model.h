@@ -107,6 +107,8 @@ struct model_purpose {
     uint32_t asked;
     bool has_data, has_cut;
     struct model_name cut;
+    /* a server of the section is left out */
+    bool server_out;
 };
 
 struct model_purpose model_purpose(uint16_t flags);
@@ -117,8 +119,8 @@ void model_take(struct model_purpose *purpose, int section, const struct model_n
 /* Nothing of the message is ever left out. */
 bool model_is_uncut(const struct model_purpose *purpose);
 
-/* A response has to have the record (RFC 2181, section 9; RFC 2308; RFC 4035, section 3.1; RFC 9471). */
-bool model_is_required(const struct model_purpose *purpose, int section, const struct model_name *owner, uint16_t type,
+/* A response has to have the record, which is left out (RFC 2181, section 9; RFC 2308; RFC 4035, section 3.1; RFC 9471). */
+bool model_is_required(struct model_purpose *purpose, int section, const struct model_name *owner, uint16_t type,
                        const uint8_t *data, size_t data_len);
 
 /* Puts the data of a record at `*at` of a buffer, with names whole, and lowered or not, and moves `*at` past them. Returns why they

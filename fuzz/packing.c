@@ -86,8 +86,9 @@ static struct model_purpose purpose_of(const uint8_t *message, size_t len, const
 }
 
 /* A record of a section is required that the copy does not have. */
-static bool misses(const uint8_t *message, size_t len, int section, size_t at, const struct model_purpose *purpose)
+static bool misses(const uint8_t *message, size_t len, int section, size_t at, struct model_purpose *purpose)
 {
+    purpose->server_out = false;
     struct model_name owner;
     struct dnw_record record;
     uint32_t copied = (uint32_t)model_number(wanted + 4 + 2 * section, 2);
@@ -140,7 +141,10 @@ static uint32_t write_copy(const uint8_t *message, size_t len, size_t most, cons
         for (int section = 1; section < 4; section++)
             is_cut |= misses(message, len, section, starts[section], &purpose);
     }
+    /* no name of the message is known to what comes last */
     CHECK(dnw_writer_release(SIZE_MAX, &w) == DNW_DONE);
+    w.owner = 0;
+    memset(w.hints, 0, sizeof w.hints);
     at = read->additionals;
     for (size_t i = 0; i < read->additional_count; i++, at = record.end) {
         CHECK(model_record(message, len, at, &name, &record) == DNW_DONE);

@@ -443,11 +443,10 @@ static bool are_of_one_set(const uint8_t *list, const struct listed *item, const
 }
 
 /* A record that is left out has to be there, by the word of the list, or else by what the message is for. */
-static bool is_missed(const uint8_t *list, const struct listed *item, const struct model_purpose *purpose)
+static bool is_missed(const uint8_t *list, const struct listed *item, struct model_purpose *purpose)
 {
-    if (item->octet >= 32)
-        return item->octet < 128;
-    return model_is_required(purpose, item->octet, &item->name, code_of(list, item, 0), item->data.bytes, item->data.len);
+    bool is_required = model_is_required(purpose, item->octet % 4, &item->name, code_of(list, item, 0), item->data.bytes, item->data.len);
+    return item->octet >= 32 ? item->octet < 128 : is_required;
 }
 
 /* Writes a list by the calls for its items, and puts whether something required is missing. */
@@ -487,7 +486,10 @@ static uint32_t model_list(const uint8_t *list, size_t len, size_t max_size, uin
                 return answer;
             at = item.end;
         } else if (item.octet == 67) {
+            /* no name of the message is known to what comes last */
             dnw_writer_release(item.name.len + 10 + item.data.len, w);
+            w->owner = 0;
+            memset(w->hints, 0, sizeof w->hints);
             answer = add_listed(list, &item, 4, message, size, w);
             if (answer != DNW_DONE)
                 return answer;
@@ -508,6 +510,7 @@ static uint32_t model_list(const uint8_t *list, size_t len, size_t max_size, uin
                     w->rank = rank;
                     memcpy(message + 4, counts, 8);
                     closed = section;
+                    purpose.server_out = false;
                     *missing = *missing || is_missed(list, &item, &purpose);
                     at = item.end;
                     break;
