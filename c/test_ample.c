@@ -6,11 +6,10 @@
 #include "dns_names_wire.h"
 #include "input.h"
 
-/* Octets, items or names: 0, 1, and both sides of each number that a body could take for a limit. */
-static const size_t sizes[] = {0,    1,    126,  127,  128,  254,   255,   256,   257,   510,   511,  512, 513,
-                               1023, 1024, 1025, 4095, 4096, 4097, 65534, 65535, 65536, 65537};
+/* Octets, items or names: all numbers up to USUAL, and both sides of each that a body could take for a limit. */
+static const size_t sizes[] = {1023, 1024, 1025, 4095, 4096, 4097, 65534, 65535, 65536, 65537};
 
-enum { SIZES = sizeof sizes / sizeof sizes[0], MOST = 65537, HEADER = 12, LONGEST = 65535 };
+enum { SIZES = sizeof sizes / sizeof sizes[0], USUAL = 600, MOST = 65537, HEADER = 12, LONGEST = 65535 };
 
 static void fill(uint8_t octet, size_t len)
 {
@@ -146,7 +145,8 @@ static void parses_times(size_t size)
     input_len = 0;
     fill('9', size);
     uint32_t answer = dnw_ttl_parse(input, size, &seconds);
-    EXPECT(answer == (size == 1 ? DNW_DONE : DNW_BAD_TIME));
+    /* nine digits fit in 32 bits, and ten nines do not */
+    EXPECT(answer == (size > 0 && size < 10 ? DNW_DONE : DNW_BAD_TIME));
 }
 
 static void finds(const char *what, uint32_t kind, size_t len, size_t count)
@@ -418,6 +418,10 @@ static void prints_options(size_t size)
     EXPECT(dnw_option_print(12, input, size, output, sizeof output, &len) == DNW_DONE && memcmp(output, "PAD:", 4) == 0);
     memcpy(input, "\0\1", 2);
     EXPECT(dnw_option_print(15, input, size, output, sizeof output, &len) == DNW_DONE && len >= (size < 2 ? 7 : size));
+    for (uint16_t code = 0; code < 40; code++) {
+        len = 0;
+        EXPECT(dnw_option_print(code, input, size, output, sizeof output, &len) == DNW_DONE && len >= 4);
+    }
 }
 
 static void writes_options(size_t size)
@@ -428,6 +432,8 @@ static void writes_options(size_t size)
     fill('x', size);
     EXPECT(dnw_option_write(3, &option, input, size, output, sizeof output, &len) == DNW_DONE && len == size);
     EXPECT(dnw_option_write(15, &option, input, size, output, sizeof output, &len) == DNW_DONE && len == 2 + size);
+    EXPECT(dnw_option_write(12, &option, input, size, output, sizeof output, &len) == DNW_DONE);
+    EXPECT(len == size && memcmp(output, input, size) == 0);
 }
 
 /* Takes the entry that is in the input. */
@@ -641,6 +647,8 @@ int main(int argc, char **argv)
         bool is_asked = argc == 1;
         for (int word = 1; word < argc; word++)
             is_asked = is_asked || strcmp(argv[word], rows[row].function) == 0;
+        for (size_t size = 0; is_asked && size <= USUAL; size++)
+            rows[row].test(size);
         for (size_t n = 0; is_asked && n < SIZES; n++)
             rows[row].test(sizes[n]);
         ran += is_asked;

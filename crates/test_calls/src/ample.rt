@@ -7,7 +7,7 @@ use dns_names_wire::canonical::{
 use dns_names_wire::data_text::{data_text, parse, parse_record, record_text};
 use dns_names_wire::decoder::BinDecoder;
 use dns_names_wire::dns_class::DNSClass;
-use dns_names_wire::dnssec::zone_digest;
+use dns_names_wire::dnssec::{ds_digest, zone_digest};
 use dns_names_wire::edns_options::OptionData;
 use dns_names_wire::error::DecodeError;
 use dns_names_wire::fields::Field;
@@ -19,17 +19,34 @@ use dns_names_wire::zone::check_zone;
 use std::alloc::Global;
 use std::test::Fail;
 
-/// Sizes of data and of texts, so that the longest data are still those of a record with other fields.
-pub(crate) const SIZES: [usize; 13] = [
-    1, 127, 128, 255, 256, 511, 512, 1_023, 1_024, 4_095, 4_096, 8_193, 65_500,
-];
-
-/// Numbers of records and of words.
-pub(crate) const COUNTS: [usize; 11] = [1, 16, 17, 127, 128, 255, 256, 511, 512, 1_024, 4_097];
+/// Numbers of records and of words about limits.
+pub(crate) const LIMITS: [usize; 8] = [127, 128, 255, 256, 511, 512, 1_024, 4_097];
 
 /// The data of an RRSIG over NULL records of the root, up to the signature, which is empty.
 const RRSIG: &[u8] =
     b"\x00\x0a\x08\x00\x00\x00\x0e\x10\x00\x00\x00\x02\x00\x00\x00\x01\x00\x07\x00";
+
+/// Returns sizes of data and of texts: all that are usual, up to 600, and those about limits. The longest data are still those of
+/// a record with other fields.
+pub(crate) fn sizes(alloc: Global) -> Result<Vec<usize>, Fail> {
+    let mut all = Vec::new(alloc);
+    for len in 1usize..601 {
+        all.push(len)?;
+    }
+    all.extend_from_slice(&[1_023, 1_024, 4_095, 4_096, 8_193, 65_500])?;
+    Ok(all)
+}
+
+/// Returns the numbers from 1 to 40, 100, and these.
+pub(crate) fn counts(alloc: Global, more: &[usize]) -> Result<Vec<usize>, Fail> {
+    let mut all = Vec::new(alloc);
+    for count in 1usize..41 {
+        all.push(count)?;
+    }
+    all.push(100)?;
+    all.extend_from_slice(more)?;
+    Ok(all)
+}
 
 /// Returns so many octets, each `x`.
 pub(crate) fn octets(alloc: Global, len: usize) -> Result<Vec<u8>, Fail> {
@@ -66,7 +83,9 @@ fn data_of(alloc: Global, record_type: RecordType, own: &[u8]) -> Result<RData, 
 #[test]
 fn data_may_have_any_size(rt: HostRuntime) -> Result<(), Fail> {
     let alloc = rt.alloc();
-    for len in SIZES {
+    let all = sizes(alloc)?;
+    for len in all.as_slice() {
+        let len = *len;
         let own = octets(alloc, len)?;
         let data = data_of(alloc, RecordType::NULL, own.as_slice())?;
         assert_eq!(rt; data.octets().len(), len);
@@ -79,11 +98,30 @@ fn data_may_have_any_size(rt: HostRuntime) -> Result<(), Fail> {
         let mut long = octets(alloc, len)?;
         assert!(rt; matches!(fields[0].append_to(&mut long), Ok(true)));
         assert_eq!(rt; long.len(), len.saturating_mul(2));
-        assert!(rt;
-            OptionData::Nsid(own.as_slice())
-                .append_to(&mut long)
-                .is_ok()
-        );
+    }
+    Ok(())
+}
+
+/// Options that may have any octets, among them those that are usual, and padding of any size.
+#[test]
+fn options_may_have_any_size(rt: HostRuntime) -> Result<(), Fail> {
+    let alloc = rt.alloc();
+    let all = sizes(alloc)?;
+    for len in all.as_slice() {
+        let own = octets(alloc, *len)?;
+        let mut known = 0;
+        for code in 0u16..40 {
+            let Ok(option) = OptionData::read(code, own.as_slice()) else {
+                continue;
+            };
+            let mut out = Vec::new(alloc);
+            option.append_to(&mut out)?;
+            assert!(rt; out.as_slice() == own.as_slice());
+            option.append_to(&mut out)?;
+            assert_eq!(rt; out.len(), len.saturating_mul(2));
+            known = code;
+        }
+        assert_eq!(rt; known, 39);
     }
     Ok(())
 }
@@ -91,7 +129,9 @@ fn data_may_have_any_size(rt: HostRuntime) -> Result<(), Fail> {
 #[test]
 fn records_may_have_data_of_any_size(rt: HostRuntime) -> Result<(), Fail> {
     let alloc = rt.alloc();
-    for len in SIZES {
+    let all = sizes(alloc)?;
+    for len in all.as_slice() {
+        let len = *len;
         let bytes = record_octets(alloc, 10, octets(alloc, len)?.as_slice())?;
         let item = RecordRef::read_next(&mut BinDecoder::new(bytes.as_slice()))?;
         let Ok(own) = Record::from_ref(alloc, &item) else {
@@ -127,7 +167,9 @@ fn records_may_have_data_of_any_size(rt: HostRuntime) -> Result<(), Fail> {
 #[test]
 fn a_signature_may_have_any_size(rt: HostRuntime) -> Result<(), Fail> {
     let alloc = rt.alloc();
-    for len in [1usize, 127, 128, 255, 256, 1_023, 1_024, 4_096, 65_516] {
+    let all = sizes(alloc)?;
+    for len in all.as_slice() {
+        let len = *len;
         let mut own = Vec::new(alloc);
         own.extend_from_slice(RRSIG)?;
         own.extend_from_slice(octets(alloc, len)?.as_slice())?;
@@ -143,7 +185,9 @@ fn a_signature_may_have_any_size(rt: HostRuntime) -> Result<(), Fail> {
 #[test]
 fn a_set_may_have_many_records(rt: HostRuntime) -> Result<(), Fail> {
     let alloc = rt.alloc();
-    for count in COUNTS {
+    let all = counts(alloc, &LIMITS)?;
+    for count in all.as_slice() {
+        let count = *count;
         let mut owned = Vec::new(alloc);
         let mut bytes = record_octets(alloc, 46, RRSIG)?;
         for number in 0..count {
@@ -169,7 +213,12 @@ fn a_set_may_have_many_records(rt: HostRuntime) -> Result<(), Fail> {
         };
         assert!(rt; signed_octets(alloc, rrsig, items.as_slice(), &mut out).is_ok());
         assert_eq!(rt; out.len(), wanted.saturating_add(RRSIG.len()));
-        assert!(rt; zone_digest(alloc, &Name::root(alloc), owned.as_slice(), 1).is_ok());
+        // What is hashed of the zone begins with the octet of the root, as what is hashed for a DS record does.
+        let whole = record_set(alloc, owned.as_slice(), 0, 60)?;
+        let rest = whole.as_slice().get(1..).unwrap_or_default();
+        let wanted = ds_digest(&Name::root(alloc), rest, 4)?;
+        let digest = zone_digest(alloc, &Name::root(alloc), owned.as_slice(), 1)?;
+        assert!(rt; digest.as_slice() == wanted.as_slice());
     }
     Ok(())
 }
@@ -178,7 +227,9 @@ fn a_set_may_have_many_records(rt: HostRuntime) -> Result<(), Fail> {
 #[test]
 fn a_zone_may_have_many_findings(rt: HostRuntime) -> Result<(), Fail> {
     let alloc = rt.alloc();
-    for count in COUNTS {
+    let all = counts(alloc, &LIMITS)?;
+    for count in all.as_slice() {
+        let count = *count;
         let mut bytes = record_octets(alloc, 10, b"x")?;
         let mut other = record_octets(alloc, 10, b"x")?;
         other[8] = 61;
@@ -207,7 +258,9 @@ fn parsed(alloc: Global, record_type: RecordType, words: &str) -> Result<usize, 
 #[test]
 fn texts_may_have_many_words(rt: HostRuntime) -> Result<(), Fail> {
     let alloc = rt.alloc();
-    for count in COUNTS {
+    let all = counts(alloc, &LIMITS)?;
+    for count in all.as_slice() {
+        let count = *count;
         let mut strings = String::new(alloc);
         let mut types = String::new(alloc);
         let mut params = String::new(alloc);
@@ -229,7 +282,9 @@ fn texts_may_have_many_words(rt: HostRuntime) -> Result<(), Fail> {
 #[test]
 fn values_of_texts_may_have_any_size(rt: HostRuntime) -> Result<(), Fail> {
     let alloc = rt.alloc();
-    for len in SIZES {
+    let all = sizes(alloc)?;
+    for len in all.as_slice() {
+        let len = *len;
         let long = text(alloc, len)?;
         let value = format!(in alloc; "1 . key65280={}", long.as_str())?;
         let given = parse(alloc, DNSClass::IN, RecordType::SVCB, value.as_str(), None);
@@ -265,7 +320,9 @@ fn values_of_texts_may_have_any_size(rt: HostRuntime) -> Result<(), Fail> {
 #[test]
 fn long_texts_that_are_wrong_are_copied(rt: HostRuntime) -> Result<(), Fail> {
     let alloc = rt.alloc();
-    for len in SIZES {
+    let all = sizes(alloc)?;
+    for len in all.as_slice() {
+        let len = *len;
         let long = text(alloc, len)?;
         let unknown = RecordType::from_str(alloc, long.as_str());
         let Err(error) = unknown else {

@@ -1,7 +1,7 @@
 //! Calls that append to what a caller has, with ample memory, after any number of octets or records: texts of values, zone files,
 //! tokens, and records.
 
-use crate::ample::{COUNTS, SIZES, octets, record_octets, text};
+use crate::ample::{LIMITS, counts, octets, record_octets, sizes, text};
 use dns_names_wire::binary::{BinDecodable, BinEncodable};
 use dns_names_wire::decoder::BinDecoder;
 use dns_names_wire::encoder::BinEncoder;
@@ -30,7 +30,9 @@ const ENTRY: &[u8] = b". 60 IN A 192.0.2.1\n";
 #[test]
 fn values_are_appended_to_vectors_of_any_size(rt: HostRuntime) -> Result<(), Fail> {
     let alloc = rt.alloc();
-    for len in SIZES {
+    let all = sizes(alloc)?;
+    for len in all.as_slice() {
+        let len = *len;
         let mut long = octets(alloc, len)?;
         parse_hexadecimal("0A", &mut long)?;
         parse_base64("Zg==", &mut long)?;
@@ -52,7 +54,9 @@ fn values_are_appended_to_vectors_of_any_size(rt: HostRuntime) -> Result<(), Fai
 #[test]
 fn texts_of_values_may_have_any_size(rt: HostRuntime) -> Result<(), Fail> {
     let alloc = rt.alloc();
-    for len in SIZES {
+    let all = sizes(alloc)?;
+    for len in all.as_slice() {
+        let len = *len;
         let mut parsed = Vec::new(alloc);
         parse_hexadecimal("0a".repeat(alloc, len)?.as_str(), &mut parsed)?;
         assert_eq!(rt; parsed.len(), len);
@@ -74,7 +78,9 @@ fn zone_files_grow_to_any_size(rt: HostRuntime) -> Result<(), Fail> {
     let alloc = rt.alloc();
     let record = RecordRef::from_bytes(alloc, ADDRESS)?;
     let root = Name::from_ascii(alloc, ".")?;
-    for len in SIZES {
+    let all = sizes(alloc)?;
+    for len in all.as_slice() {
+        let len = *len;
         let mut context = Context::new(root.copied());
         let mut long = octets(alloc, len)?;
         append_record(alloc, &record, &mut long)?;
@@ -92,7 +98,9 @@ fn zone_files_grow_to_any_size(rt: HostRuntime) -> Result<(), Fail> {
 #[test]
 fn zone_files_may_have_many_records(rt: HostRuntime) -> Result<(), Fail> {
     let alloc = rt.alloc();
-    for count in COUNTS {
+    let all = counts(alloc, &LIMITS)?;
+    for count in all.as_slice() {
+        let count = *count;
         let mut zone = Vec::new(alloc);
         for _ in 0..count {
             zone.extend_from_slice(ENTRY)?;
@@ -106,7 +114,9 @@ fn zone_files_may_have_many_records(rt: HostRuntime) -> Result<(), Fail> {
 #[test]
 fn tokens_may_have_any_size(rt: HostRuntime) -> Result<(), Fail> {
     let alloc = rt.alloc();
-    for len in SIZES {
+    let all = sizes(alloc)?;
+    for len in all.as_slice() {
+        let len = *len;
         let long = text(alloc, len)?;
         let mut lexer = Lexer::new(long.as_str());
         assert!(rt;
@@ -121,7 +131,9 @@ fn tokens_may_have_any_size(rt: HostRuntime) -> Result<(), Fail> {
 #[test]
 fn records_of_any_size_are_owned_and_written(rt: HostRuntime) -> Result<(), Fail> {
     let alloc = rt.alloc();
-    for len in SIZES {
+    let all = sizes(alloc)?;
+    for len in all.as_slice() {
+        let len = *len;
         let own = octets(alloc, len)?;
         let bytes = record_octets(alloc, 10, own.as_slice())?;
         let record = RecordRef::from_bytes(alloc, bytes.as_slice())?;
@@ -146,7 +158,9 @@ fn records_of_any_size_are_owned_and_written(rt: HostRuntime) -> Result<(), Fail
 #[test]
 fn items_may_be_many(rt: HostRuntime) -> Result<(), Fail> {
     let alloc = rt.alloc();
-    for count in COUNTS {
+    let all = counts(alloc, &LIMITS)?;
+    for count in all.as_slice() {
+        let count = *count;
         let items = vec![in alloc; 7u16; count]?;
         let mut bytes = Vec::new(alloc);
         let mut encoder = BinEncoder::new(&mut bytes);
@@ -161,7 +175,9 @@ fn items_may_be_many(rt: HostRuntime) -> Result<(), Fail> {
 #[test]
 fn bitmaps_may_have_all_windows(rt: HostRuntime) -> Result<(), Fail> {
     let alloc = rt.alloc();
-    for windows in [0u16, 1, 15, 16, 17, 31, 32, 127, 128, 255, 256] {
+    let all = counts(alloc, &[0, 127, 128, 255, 256])?;
+    for count in all.as_slice() {
+        let windows = u16::try_from(*count).map_err(|_| "windows")?;
         let mut bitmap = Vec::new(alloc);
         for window in 0..windows {
             bitmap.push((window % 256) as u8)?;

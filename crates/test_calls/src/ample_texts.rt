@@ -1,7 +1,7 @@
 //! Calls that may report out of memory, with ample memory, at every size that a body could take for a limit: texts that are printed
 //! and parsed, zone files, and messages.
 
-use crate::ample::{COUNTS, SIZES, octets, record_octets, text};
+use crate::ample::{LIMITS, counts, octets, record_octets, sizes, text};
 use dns_names_wire::data_text::{data_text, parse, parse_entry};
 use dns_names_wire::decoder::BinDecoder;
 use dns_names_wire::dns_class::DNSClass;
@@ -57,7 +57,9 @@ fn comes_back(alloc: Global, code: u16, own: &[u8]) -> Result<bool, Fail> {
 #[test]
 fn octets_are_printed_and_parsed_at_any_size(rt: HostRuntime) -> Result<(), Fail> {
     let alloc = rt.alloc();
-    for len in SIZES {
+    let all = sizes(alloc)?;
+    for len in all.as_slice() {
+        let len = *len;
         let in_hexadecimal = repeated(alloc, b"\x03\x01\x01", b"x", len)?;
         assert!(rt; comes_back(alloc, 52, in_hexadecimal.as_slice())?);
         let in_base64 = repeated(alloc, b"\x01\x00\x03\x08", b"x", len)?;
@@ -73,7 +75,9 @@ fn octets_are_printed_and_parsed_at_any_size(rt: HostRuntime) -> Result<(), Fail
 #[test]
 fn lists_are_printed_and_parsed_at_any_size(rt: HostRuntime) -> Result<(), Fail> {
     let alloc = rt.alloc();
-    for count in COUNTS {
+    let all = counts(alloc, &LIMITS)?;
+    for count in all.as_slice() {
+        let count = *count;
         let strings = repeated(alloc, b"", b"\x01x", count)?;
         assert!(rt; comes_back(alloc, 16, strings.as_slice())?);
         let protocols = with_param(alloc, 1, strings.as_slice())?;
@@ -88,7 +92,9 @@ fn lists_are_printed_and_parsed_at_any_size(rt: HostRuntime) -> Result<(), Fail>
 #[test]
 fn values_are_printed_and_parsed_at_any_size(rt: HostRuntime) -> Result<(), Fail> {
     let alloc = rt.alloc();
-    for len in SIZES {
+    let all = sizes(alloc)?;
+    for len in all.as_slice() {
+        let len = *len;
         let value = octets(alloc, len)?;
         for key in [5u16, 65_280] {
             let own = with_param(alloc, key, value.as_slice())?;
@@ -105,7 +111,8 @@ fn values_are_printed_and_parsed_at_any_size(rt: HostRuntime) -> Result<(), Fail
 #[test]
 fn hashes_and_salts_have_up_to_255_octets(rt: HostRuntime) -> Result<(), Fail> {
     let alloc = rt.alloc();
-    for len in [1u8, 20, 127, 128, 254, 255] {
+    for number in 1usize..256 {
+        let len = (number % 256) as u8;
         let salt = repeated(alloc, &[1, 0, 0, 1, len], b"s", usize::from(len))?;
         assert!(rt; comes_back(alloc, 51, salt.as_slice())?);
         let hash = repeated(alloc, salt.as_slice(), &[len], 1)?;
@@ -118,7 +125,9 @@ fn hashes_and_salts_have_up_to_255_octets(rt: HostRuntime) -> Result<(), Fail> {
 #[test]
 fn entries_of_zone_files_may_have_any_size(rt: HostRuntime) -> Result<(), Fail> {
     let alloc = rt.alloc();
-    for len in SIZES {
+    let all = sizes(alloc)?;
+    for len in all.as_slice() {
+        let len = *len;
         let comment = text(alloc, len)?;
         let entry = format!(in alloc; "a. 60 TXT (\n \"b\" ; {}\n c )\n", comment.as_str())?;
         let found = parse_entry(alloc, entry.as_bytes(), None);
@@ -167,7 +176,9 @@ fn is_copied(alloc: Global, octets: &[u8]) -> Result<bool, Fail> {
 #[test]
 fn a_message_of_many_records_is_copied(rt: HostRuntime) -> Result<(), Fail> {
     let alloc = rt.alloc();
-    for count in COUNTS {
+    let all = counts(alloc, &LIMITS)?;
+    for count in all.as_slice() {
+        let count = *count;
         let bytes = response(alloc, count, 4)?;
         assert!(rt; is_copied(alloc, bytes.as_slice())?);
     }
@@ -177,7 +188,9 @@ fn a_message_of_many_records_is_copied(rt: HostRuntime) -> Result<(), Fail> {
 #[test]
 fn a_message_of_any_size_is_copied(rt: HostRuntime) -> Result<(), Fail> {
     let alloc = rt.alloc();
-    for len in SIZES {
+    let all = sizes(alloc)?;
+    for len in all.as_slice() {
+        let len = *len;
         let bytes = response(alloc, 1, len)?;
         assert!(rt; is_copied(alloc, bytes.as_slice())?);
         let mut encoded = Vec::new(alloc);

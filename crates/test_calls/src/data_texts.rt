@@ -15,7 +15,7 @@ use std::alloc::Global;
 use std::test::Fail;
 
 /// Type codes, data and their texts.
-const ROWS: &[(u16, &str, &str)] = &[
+pub(crate) const ROWS: &[(u16, &str, &str)] = &[
     (1, "C0000201", "192.0.2.1"),
     (2, "036E7331076578616D706C6503636F6D00", "ns1.example.com."),
     (5, "0161076578616D706C6500", "a.example."),

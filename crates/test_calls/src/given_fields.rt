@@ -51,7 +51,7 @@ const DATA: [(u16, &[u8]); 19] = [
 ];
 
 /// Makes data of the fields that data have.
-fn made_again(alloc: Global, data: &RData) -> Result<RData, Fail> {
+pub(crate) fn made_again(alloc: Global, data: &RData) -> Result<RData, Fail> {
     let mut fields = Vec::new(alloc);
     for field in data.fields() {
         let Ok(field) = field else {

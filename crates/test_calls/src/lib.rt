@@ -10,7 +10,11 @@ mod ample;
 #[cfg(test)]
 mod ample_growing;
 #[cfg(test)]
+mod ample_ordinary;
+#[cfg(test)]
 mod ample_texts;
+#[cfg(test)]
+mod ample_types;
 #[cfg(test)]
 mod borrowed;
 #[cfg(test)]

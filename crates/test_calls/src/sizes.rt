@@ -1,5 +1,6 @@
 //! Calls that may report out of memory, with ample memory, at the sizes that a byte and 16 bits hold and past them.
 
+use crate::ample::counts;
 use dns_names_wire::binary::BinEncodable;
 use dns_names_wire::dns_class::DNSClass;
 use dns_names_wire::encoder::{BinEncoder, NameEncoding};
@@ -12,11 +13,11 @@ use dns_names_wire::script::{self, Item, Part, Reply, Step};
 use std::alloc::Global;
 use std::test::Fail;
 
-/// Sizes of what stands in a message.
-const SIZES: [usize; 4] = [1, 255, 256, 65_535];
+/// Sizes of what stands in a message, about limits.
+const SIZES: [usize; 3] = [255, 256, 65_535];
 
-/// Sizes of lists.
-const COUNTS: [usize; 6] = [1, 255, 256, 4_096, 4_097, 65_536];
+/// Sizes of lists about limits.
+const LIMITS: [usize; 5] = [255, 256, 4_096, 4_097, 65_536];
 
 /// Returns so many zeros.
 fn zeros(alloc: Global, len: usize) -> ProtoResult<Vec<u8>> {
@@ -50,7 +51,9 @@ fn runs(alloc: Global, steps: &[Step], len: usize) -> ProtoResult<bool> {
 #[test]
 fn a_script_may_have_many_steps(rt: HostRuntime) -> Result<(), Fail> {
     let alloc = rt.alloc();
-    for count in COUNTS {
+    let all = counts(alloc, &LIMITS)?;
+    for count in all.as_slice() {
+        let count = *count;
         let mut steps = Vec::with_capacity(alloc, count)?;
         for _ in 0..count {
             steps.push(Step::Canonical(true))?;
@@ -66,7 +69,9 @@ fn a_script_may_have_many_steps(rt: HostRuntime) -> Result<(), Fail> {
 #[test]
 fn a_script_may_have_many_placeholders(rt: HostRuntime) -> Result<(), Fail> {
     let alloc = rt.alloc();
-    for count in [1usize, 255, 256, 4_097, 32_767] {
+    let all = counts(alloc, &[255, 256, 4_097, 32_767])?;
+    for count in all.as_slice() {
+        let count = *count;
         let mut steps = Vec::with_capacity(alloc, count.saturating_add(1))?;
         for _ in 0..count {
             steps.push(Step::Reserve)?;
@@ -83,11 +88,15 @@ fn a_script_may_have_many_placeholders(rt: HostRuntime) -> Result<(), Fail> {
 #[test]
 fn a_step_may_write_a_whole_message(rt: HostRuntime) -> Result<(), Fail> {
     let alloc = rt.alloc();
-    for len in SIZES {
+    let all = counts(alloc, &SIZES)?;
+    for len in all.as_slice() {
+        let len = *len;
         assert!(rt; runs(alloc, &[Step::Bytes(zeros(alloc, len)?)], len)?);
     }
     // A record of the root has 11 octets before its data.
-    for len in [0usize, 1, 255, 256, 65_524] {
+    let all = counts(alloc, &[0, 255, 256, 65_524])?;
+    for len in all.as_slice() {
+        let len = *len;
         let end = len.saturating_add(11);
         assert!(rt; runs(alloc, &[Step::Record(record(alloc, len)?)], end)?);
         let mut bytes = Vec::new(alloc);
@@ -95,7 +104,7 @@ fn a_step_may_write_a_whole_message(rt: HostRuntime) -> Result<(), Fail> {
         record(alloc, len)?.emit(&mut encoder)?;
         assert_eq!(rt; encoder.offset(), end);
     }
-    for len in [0usize, 1, 255] {
+    for len in 0usize..256 {
         assert!(rt;
             runs(
                 alloc,
@@ -124,7 +133,9 @@ fn writes_items(alloc: Global, items: Vec<Item>, len: usize) -> ProtoResult<bool
 #[test]
 fn a_step_may_have_many_items_and_an_item_many_parts(rt: HostRuntime) -> Result<(), Fail> {
     let alloc = rt.alloc();
-    for count in COUNTS {
+    let all = counts(alloc, &LIMITS)?;
+    for count in all.as_slice() {
+        let count = *count;
         let mut items = Vec::with_capacity(alloc, count)?;
         let mut parts = Vec::new(alloc);
         for _ in 0..count {
@@ -152,7 +163,9 @@ fn a_step_may_have_many_items_and_an_item_many_parts(rt: HostRuntime) -> Result<
 #[test]
 fn bytes_are_written_at_the_end_and_before_it(rt: HostRuntime) -> Result<(), Fail> {
     let alloc = rt.alloc();
-    for len in SIZES {
+    let all = counts(alloc, &SIZES)?;
+    for len in all.as_slice() {
+        let len = *len;
         let data = zeros(alloc, len)?;
         let mut bytes = Vec::new(alloc);
         let mut encoder = BinEncoder::new(&mut bytes);
@@ -175,7 +188,9 @@ fn bytes_are_written_at_the_end_and_before_it(rt: HostRuntime) -> Result<(), Fai
 #[test]
 fn a_placeholder_is_reserved_at_the_end_and_before_it(rt: HostRuntime) -> Result<(), Fail> {
     let alloc = rt.alloc();
-    for len in [0usize, 1, 2, 255, 256, 65_533] {
+    let all = counts(alloc, &[0, 255, 256, 65_533])?;
+    for len in all.as_slice() {
+        let len = *len;
         let mut bytes = zeros(alloc, len)?;
         let offset = u32::try_from(len).map_err(|_| "an offset")?;
         assert_eq!(rt; bytes.len(), len);
@@ -200,7 +215,9 @@ fn a_placeholder_is_reserved_at_the_end_and_before_it(rt: HostRuntime) -> Result
 #[test]
 fn an_encoder_may_keep_many_candidates(rt: HostRuntime) -> Result<(), Fail> {
     let alloc = rt.alloc();
-    for count in [1u16, 64, 65, 255, 256, 257, 1_000] {
+    let all = counts(alloc, &[64, 65, 255, 256, 257, 1_000])?;
+    for count in all.as_slice() {
+        let count = u16::try_from(*count).map_err(|_| "a count")?;
         let mut bytes = Vec::new(alloc);
         let mut encoder = BinEncoder::new(&mut bytes).with_limits(usize::from(count), 65_536);
         let mut last = 0;
@@ -229,7 +246,9 @@ fn an_encoder_may_keep_many_candidates(rt: HostRuntime) -> Result<(), Fail> {
 #[test]
 fn many_names_are_compressed(rt: HostRuntime) -> Result<(), Fail> {
     let alloc = rt.alloc();
-    for count in [1usize, 64, 65, 121, 257, 1_000] {
+    let all = counts(alloc, &[64, 65, 121, 257, 1_000])?;
+    for count in all.as_slice() {
+        let count = *count;
         let mut bytes = Vec::new(alloc);
         let mut encoder = BinEncoder::new(&mut bytes).with_limits(65_536, 65_536);
         let mut names = Vec::new(alloc);
@@ -252,7 +271,9 @@ fn many_names_are_compressed(rt: HostRuntime) -> Result<(), Fail> {
 #[test]
 fn a_list_may_have_many_items(rt: HostRuntime) -> Result<(), Fail> {
     let alloc = rt.alloc();
-    for count in [1usize, 255, 256, 32_767] {
+    let all = counts(alloc, &[255, 256, 32_767])?;
+    for count in all.as_slice() {
+        let count = *count;
         let items = vec![in alloc; 7u16; count]?;
         let mut bytes = Vec::new(alloc);
         let mut encoder = BinEncoder::new(&mut bytes);
@@ -265,7 +286,9 @@ fn a_list_may_have_many_items(rt: HostRuntime) -> Result<(), Fail> {
 #[test]
 fn a_set_may_have_all_types(rt: HostRuntime) -> Result<(), Fail> {
     let alloc = rt.alloc();
-    for count in COUNTS {
+    let all = counts(alloc, &LIMITS)?;
+    for count in all.as_slice() {
+        let count = *count;
         let mut types = Vec::new(alloc);
         for code in 0..count {
             let code = u16::try_from(code).map_err(|_| "a code")?;
