@@ -4,7 +4,7 @@ use crate::edns_option::EdnsOption;
 use crate::error::Error;
 use crate::ffi::{self, HEADER_SIZE};
 use crate::field::Pairs;
-use crate::header::{Header, ResponseCode};
+use crate::header::{Header, OpCode, ResponseCode};
 use crate::name_ref::{pass_name, NameRef};
 use crate::record::Record;
 use alloc::vec::Vec;
@@ -16,6 +16,10 @@ const MAX_POINTERS: usize = 65536;
 
 /// The octets of the counts, at the end of the header.
 const COUNTS_SIZE: usize = 8;
+
+/// The titles of the sections, and those of an UPDATE (RFC 2136, section 2).
+const TITLES: [&str; 4] = ["QUESTION", "ANSWER", "AUTHORITY", "ADDITIONAL"];
+const UPDATE_TITLES: [&str; 4] = ["ZONE", "PREREQUISITE", "UPDATE", "ADDITIONAL"];
 
 /// A message that was checked as a whole (RFC 1035, section 4): its header, its questions and its records are all
 /// there. It borrows the octets that it was read from.
@@ -323,6 +327,7 @@ impl fmt::Display for Message<'_> {
         header.flags().into_iter().filter(|(_, is_set)| *is_set).try_for_each(|(flag, _)| write!(f, " {flag}"))?;
         write!(f, "; QUERY: {}, ANSWER: {}", header.question_count, header.answer_count)?;
         writeln!(f, ", AUTHORITY: {}, ADDITIONAL: {}", header.authority_count, header.additional_count)?;
+        let titles = if header.op_code == OpCode::Update { UPDATE_TITLES } else { TITLES };
         if let Some(edns) = &edns {
             writeln!(f, "\n;; OPT PSEUDOSECTION:")?;
             let flags = if edns.dnssec_ok { " do" } else { "" };
@@ -330,12 +335,10 @@ impl fmt::Display for Message<'_> {
             edns.options().try_for_each(|option| writeln!(f, "; {}", EdnsOption::from(option)))?;
         }
         if header.question_count > 0 {
-            writeln!(f, "\n;; QUESTION SECTION:")?;
+            writeln!(f, "\n;; {} SECTION:", titles[0])?;
             self.questions().try_for_each(|question| writeln!(f, ";{question}"))?;
         }
-        let sections =
-            [("ANSWER", self.answers()), ("AUTHORITY", self.authorities()), ("ADDITIONAL", self.additionals())];
-        for (title, records) in sections {
+        for (title, records) in titles[1..].iter().zip([self.answers(), self.authorities(), self.additionals()]) {
             let mut shown =
                 records.filter(|record| edns.is_none() || record.record_type() != RecordType::OPT).peekable();
             if shown.peek().is_some() {

@@ -152,7 +152,7 @@ fn push_queries(alloc: Global, text: &mut String, message: &MessageRef<'_>) -> R
     if message.header().counts.queries == 0 {
         return Ok(());
     }
-    text.push_str("\n;; QUESTION SECTION:")?;
+    push_title(text, message.header().metadata.op_code, Section::Queries)?;
     for query in message.queries() {
         push_query(alloc, text, &query)?;
     }
@@ -179,9 +179,10 @@ fn push_sections(
     text: &mut String,
     message: &MessageRef<'_>,
 ) -> Result<(), Refusal> {
-    push_section(alloc, text, Section::Answers, message.answers())?;
-    push_section(alloc, text, Section::Authorities, message.authorities())?;
-    push_section(alloc, text, Section::Additionals, message.additionals())
+    let op = message.header().metadata.op_code;
+    push_section(alloc, text, op, Section::Answers, message.answers())?;
+    push_section(alloc, text, op, Section::Authorities, message.authorities())?;
+    push_section(alloc, text, op, Section::Additionals, message.additionals())
 }
 
 /// Adds the records of a section, under its title if there are any. What the `OPT` record among the additional ones says stands
@@ -189,6 +190,7 @@ fn push_sections(
 fn push_section(
     alloc: Global,
     text: &mut String,
+    op: OpCode,
     section: Section,
     records: Records<'_>,
 ) -> Result<(), Refusal> {
@@ -198,7 +200,7 @@ fn push_section(
             continue;
         }
         if is_empty {
-            push_title(text, section)?;
+            push_title(text, op, section)?;
             is_empty = false;
         }
         push_record(alloc, text, &record)?;
@@ -209,8 +211,13 @@ fn push_section(
     Ok(())
 }
 
-fn push_title(text: &mut String, section: Section) -> Result<(), Refusal> {
-    write!(text, "\n;; {} SECTION:", title_of(section))?;
+fn push_title(text: &mut String, op: OpCode, section: Section) -> Result<(), Refusal> {
+    let title = if op == OpCode::Update {
+        title_in_update(section)
+    } else {
+        title_of(section)
+    };
+    write!(text, "\n;; {title} SECTION:")?;
     Ok(())
 }
 
@@ -220,6 +227,17 @@ fn title_of(section: Section) -> &'static str {
         Section::Queries => "QUESTION",
         Section::Answers => "ANSWER",
         Section::Authorities => "AUTHORITY",
+        Section::Additionals => "ADDITIONAL",
+    }
+}
+
+/// Returns the title of a section of an UPDATE (RFC 2136, section 2).
+fn title_in_update(section: Section) -> &'static str {
+    match section {
+        Section::Header => "HEADER",
+        Section::Queries => "ZONE",
+        Section::Answers => "PREREQUISITE",
+        Section::Authorities => "UPDATE",
         Section::Additionals => "ADDITIONAL",
     }
 }
