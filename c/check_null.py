@@ -67,6 +67,7 @@ SAMPLES = {
     "dnw_writer_query": {"max_size": 512},
     "dnw_writer_record": {"section": 2, "record_type": 1, "record_class": 1, "data": b"\xc0\0\2\1"},
     "dnw_writer_set": {"section": 2, "record_type": 1, "record_class": 1, "set": b"\0\4\xc0\0\2\1"},
+    "dnw_writer_fill": {"items": b"\1" + ADDRESS},
     "dnw_writer_edns": {"options": b"\0\3\0\0"},
     "dnw_writer_last": {"record_type": 1, "record_class": 1, "data": b"\xc0\0\2\1"},
     "dnw_message_write": {"items": b"\1" + ADDRESS, "max_size": 512},

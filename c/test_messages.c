@@ -474,6 +474,23 @@ static void tells_replies(void)
     EXPECT(replies(BYTES(asks), BYTES("\022\064\201\200\000\000\000\000\000\000\000\000"), &is_reply) == DNW_DONE && !is_reply);
     EXPECT(replies(BYTES(asks), BYTES("\022\065\201\200\000\001\000\000\000\000\000\000" WWW "\000\001\000\001"), &is_reply) == DNW_DONE);
     EXPECT(!is_reply);
+    /* without a question: if none was asked, to an UPDATE, and by the codes of refusals */
+#define BARE(flags, code) "\022\064" flags code "\000\000\000\000\000\000\000\000"
+    EXPECT(replies(BYTES(BARE("\001", "\000")), BYTES(BARE("\201", "\000")), &is_reply) == DNW_DONE && is_reply);
+    EXPECT(replies(BYTES(BARE("\001", "\000")), BYTES(cases), &is_reply) == DNW_DONE && !is_reply);
+    EXPECT(replies(BYTES(ASKS("\050\000", WWW, "\006")), BYTES(BARE("\250", "\000")), &is_reply) == DNW_DONE && is_reply);
+    EXPECT(replies(BYTES(ASKS("\050\000", WWW, "\006")), BYTES(ASKS("\250\000", WWW, "\001")), &is_reply) == DNW_DONE && !is_reply);
+    for (unsigned code = 0; code < 16; code++) {
+        const uint8_t bare[] = {0x12, 0x34, 0x81, (uint8_t)code, 0, 0, 0, 0, 0, 0, 0, 0};
+        EXPECT(replies(BYTES(asks), bare, sizeof bare, &is_reply) == DNW_DONE);
+        EXPECT(is_reply == (code == 1 || code == 2 || code == 4 || code == 5));
+        const uint8_t two[] = ASKS("\001\000", WWW, "\001") "\000\000\001\000\001";
+        uint8_t asks_two[sizeof two - 1];
+        memcpy(asks_two, two, sizeof asks_two);
+        asks_two[5] = 2;
+        EXPECT(replies(asks_two, sizeof asks_two, bare, sizeof bare, &is_reply) == DNW_DONE);
+        EXPECT(is_reply == (code == 1 || code == 2 || code == 4 || code == 5));
+    }
     EXPECT(replies(BYTES("\022"), BYTES(referral), &is_reply) == DNW_MESSAGE_CUT && is_reply);
     EXPECT(replies(BYTES(asks), BYTES(referral) - 1, &is_reply) == DNW_MESSAGE_CUT && is_reply);
 #undef ASKS

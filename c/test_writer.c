@@ -334,10 +334,17 @@ static void keeps_one_opt(void)
 #define ASKS(flags, counts) "\253\315" flags counts
 #define SAYS(version, flag) "\000\000\051\004\320\000" version flag "\000\000\000"
 
+/* The low four bits of the flags are the response code. */
 static uint32_t reply(const uint8_t *request, size_t len, size_t max_size, uint16_t flags, struct dnw_edns *edns)
 {
     memset(message, 0x5A, ROOM);
-    return dnw_writer_reply(message, ROOM, max_size, request, len, flags, &writer, edns);
+    return dnw_writer_reply(message, ROOM, max_size, request, len, flags & 0xFFF0, flags & 15, &writer, edns);
+}
+
+static uint32_t reply_code(const uint8_t *request, size_t len, uint16_t code, struct dnw_edns *edns)
+{
+    memset(message, 0x5A, ROOM);
+    return dnw_writer_reply(message, ROOM, ROOM, request, len, 0x000F, code, &writer, edns);
 }
 
 /* A reply has the id, the operation, RD, CD and the question of the request. */
@@ -354,6 +361,8 @@ static void begins_replies(void)
     EXPECT(reply(BYTES(ASKS("\001\000", "\000\001\000\000\000\000\000\001") QUESTION SAYS("\001", "\000")), ROOM, 0, &edns) == DNW_DONE);
     expect_message(BYTES(ASKS("\201\000", "\000\001\000\000\000\000\000\000") QUESTION));
     EXPECT(edns.is_present && !edns.dnssec_ok && edns.response_code == 16);
+    EXPECT(address(ROOM, DNW_SECTION_ANSWERS, BYTES(ROOT)) == DNW_BAD_ITEM && address(ROOM, DNW_SECTION_AUTHORITIES, BYTES(ROOT)) == DNW_BAD_ITEM);
+    EXPECT(add_opt(0) == DNW_DONE && writer.len == 33 + 11);
     /* not complete, two questions, two OPT records */
     EXPECT(reply(BYTES(ASKS("\001\000", "\000\001\000\000\000\000\000\000") WWW), ROOM, 0, &edns) == DNW_DONE);
     expect_message(BYTES(ASKS("\201\001", "\000\000\000\000\000\000\000\000")));
@@ -362,6 +371,12 @@ static void begins_replies(void)
     expect_message(BYTES(ASKS("\201\001", "\000\000\000\000\000\000\000\000")));
     EXPECT(reply(BYTES(ASKS("\001\000", "\000\001\000\000\000\000\000\002") QUESTION SAYS("\000", "\000") SAYS("\000", "\000")), ROOM, 0, &edns) == DNW_DONE);
     EXPECT(!edns.is_present && edns.response_code == 1 && message[3] == 1);
+    /* two questions and EDNS, which the reply has too (RFC 6891, section 6.1.1) */
+    EXPECT(reply(BYTES(ASKS("\001\000", "\000\002\000\000\000\000\000\001") QUESTION QUESTION SAYS("\000", "\200")), ROOM, 0, &edns) == DNW_DONE);
+    expect_message(BYTES(ASKS("\201\001", "\000\000\000\000\000\000\000\000")));
+    EXPECT(edns.is_present && edns.dnssec_ok && edns.response_code == 1 && writer.reserved == 11);
+    EXPECT(reply(BYTES(ASKS("\001\000", "\000\002\000\000\000\000\000\001") QUESTION QUESTION SAYS("\001", "\000")), ROOM, 0, &edns) == DNW_DONE);
+    EXPECT(edns.is_present && edns.response_code == 16);
     /* no request, and no room */
     EXPECT(reply(BYTES("\253\315\001\000\000\001\000\000\000\000\000"), ROOM, 0, &edns) == DNW_BAD_ITEM);
     EXPECT(reply(BYTES(ASKS("\201\000", "\000\001\000\000\000\000\000\000") QUESTION), ROOM, 0, &edns) == DNW_BAD_ITEM);
@@ -369,6 +384,61 @@ static void begins_replies(void)
     for (size_t most = 0; most < DNW_HEADER_SIZE; most++)
         EXPECT(reply(BYTES(ASKS("\001\000", "\000\000\000\000\000\000\000\000")), most, 0, &edns) == DNW_MESSAGE_TOO_LONG);
     EXPECT(reply(BYTES(ASKS("\001\000", "\000\001\000\000\000\000\000\000") QUESTION), 33, 0, &edns) == DNW_DONE);
+}
+
+/* A code above 15 needs EDNS, of which a reply has none if the request has none; and replies that are whole without a record. */
+static void takes_codes(void)
+{
+    struct dnw_edns edns;
+    const uint8_t plain[] = ASKS("\001\000", "\000\001\000\000\000\000\000\000") QUESTION;
+    const uint8_t by_edns[] = ASKS("\001\000", "\000\001\000\000\000\000\000\001") QUESTION SAYS("\000", "\000");
+    const size_t len = sizeof plain - 1, edns_len = sizeof by_edns - 1;
+    for (uint16_t code = 0; code < 5000; code++) {
+        EXPECT(reply_code(plain, len, code, &edns) == (code < 16 ? DNW_DONE : DNW_BAD_ITEM));
+        EXPECT(code >= 16 || (edns.response_code == code && message[3] == code));
+        EXPECT(reply_code(by_edns, edns_len, code, &edns) == (code < 4096 ? DNW_DONE : DNW_BAD_ITEM));
+        EXPECT(code >= 4096 || (edns.response_code == code && message[3] == code % 16 && writer.reserved == 11));
+        if (code < 4096) {
+            const uint32_t expected = code == 1 || code == 4 || code == 16 ? DNW_BAD_ITEM : DNW_DONE;
+            EXPECT(address(ROOM, DNW_SECTION_ANSWERS, BYTES(ROOT)) == expected);
+            EXPECT(question(ROOM, BYTES(ROOT)) == DNW_BAD_ITEM);
+            EXPECT(address(ROOM, DNW_SECTION_ADDITIONALS, BYTES(ROOT)) == DNW_DONE);
+        }
+    }
+    /* a request that has to get another code gets it, whatever the server's */
+    EXPECT(reply_code(BYTES(ASKS("\001\000", "\000\002\000\000\000\000\000\000") QUESTION QUESTION), 5000, &edns) == DNW_DONE);
+    EXPECT(edns.response_code == 1);
+}
+
+/* Records of a list are added as far as there is room, and the call says where to go on. */
+static void fills(void)
+{
+    uint8_t list[4 * 16];
+    size_t next = 7;
+    for (size_t i = 0; i < 4; i++)
+        memcpy(list + 16 * i, "\001\000\000\001\000\001\000\000\000\000\000\004\300\000\002\001", 16);
+    /* an item of 15 octets each time, in messages of 12 octets and two of them */
+    for (size_t at = 0, left = 4; left > 0; at = next, left -= 2) {
+        begin_new(12 + 2 * 15 + 14);
+        EXPECT(dnw_writer_fill(message, ROOM, list, sizeof list, at, &writer, &next) == DNW_DONE);
+        EXPECT(next == at + 32 && writer.len == 12 + 30 && message[7] == 2);
+    }
+    EXPECT(dnw_writer_fill(message, ROOM, list, sizeof list, sizeof list, &writer, &next) == DNW_DONE && next == sizeof list);
+    /* none has room, is there, or may follow, and then nothing changes */
+    next = 7;
+    begin_new(12 + 14);
+    EXPECT(dnw_writer_fill(message, ROOM, list, sizeof list, 0, &writer, &next) == DNW_MESSAGE_TOO_LONG);
+    begin_new(ROOM);
+    EXPECT(dnw_writer_fill(message, ROOM, list, sizeof list, sizeof list + 1, &writer, &next) == DNW_BAD_ITEM);
+    EXPECT(dnw_writer_fill(message, ROOM, list, 15, 0, &writer, &next) == DNW_BAD_ITEM);
+    EXPECT(dnw_writer_fill(message, ROOM, BYTES("\000" ROOT "\000\001\000\001"), 0, &writer, &next) == DNW_BAD_ITEM);
+    EXPECT(dnw_writer_fill(message, ROOM, BYTES("\103" ROOT "\000\001\000\001\000\000\000\000\000\004\300\000\002\001"), 0, &writer, &next) == DNW_BAD_ITEM);
+    EXPECT(dnw_writer_fill(message, ROOM, BYTES("\001" ROOT "\000\001\000\001\000\000\000\000\000\003\300\000\002"), 0, &writer, &next) == DNW_BAD_DATA);
+    EXPECT(next == 7 && writer.len == 12 && message[7] == 0);
+    /* one that fails later ends the call before it */
+    list[32] = 99;
+    EXPECT(dnw_writer_fill(message, ROOM, list, sizeof list, 0, &writer, &next) == DNW_DONE && next == 32 && writer.len == 12 + 30);
+    EXPECT(dnw_writer_fill(message, ROOM, list, sizeof list, next, &writer, &next) == DNW_BAD_ITEM && next == 32);
 }
 
 static uint32_t query(size_t max_size, bool recursion_desired, const uint8_t *name, size_t len, uint16_t max_payload)
@@ -584,6 +654,16 @@ static void knows_what_is_required(void)
 #define WITH_NS(type) ASKED_A COM_NS("\002") RRSIG_RR("\002", ROOT, type)
     EXPECT(lists(BYTES(WITH_NS("\002")), 49, WANTED(HEADER("\000\001\000\001\000\000\000\000") PUT_ASKED_A), false));
     EXPECT(lists(BYTES(WITH_NS("\057")), 49, WANTED(CUT("\000\001\000\001\000\000\000\000") PUT_ASKED_A), true));
+    /* the signatures of NS that is there are not extra (RFC 4035, section 3.1.1): it goes with those that follow it */
+#define SIGNED_NS "\002\000" FIELDS("\002") "\000\001\000" RRSIG_RR("\002", ROOT, "\002")
+    for (size_t most = 49; most < 49 + 12 + 31; most++)
+        EXPECT(lists(BYTES(ASKED_A SIGNED_NS), most, WANTED(HEADER("\000\001\000\001\000\000\000\000") PUT_ASKED_A), false));
+    EXPECT(list(BYTES(ASKED_A SIGNED_NS), 49 + 12 + 31, ROOM) == DNW_DONE && result.len == 49 + 12 + 31 && !result.truncated);
+    EXPECT(list(BYTES(WITH_NS("\002")), 66, ROOM) == DNW_DONE && result.len == 49 + 13 && result.truncated);
+    EXPECT(list(BYTES(ASKED_A RRSIG_RR("\002", ROOT, "\002")), 49, ROOM) == DNW_DONE && result.len == 49 && result.truncated);
+    EXPECT(list(BYTES(ASKED_A COM_NS("\202") RRSIG_RR("\002", ROOT, "\002")), 49, ROOM) == DNW_DONE && !result.truncated);
+    EXPECT(list(BYTES("\000" WWW "\000\002\000\001" "\001" WWW FIELDS("\002") "\000\001\000" "\001" WEB FIELDS("\002") "\000\001\000" RRSIG_RR("\002", ROOT, "\002")),
+                46, ROOM) == DNW_DONE && result.len == 46 && result.truncated);
     EXPECT(lists(BYTES(ASKED_A NSEC_RR("\002")), 49, WANTED(CUT("\000\001\000\001\000\000\000\000") PUT_ASKED_A), true));
     EXPECT(lists(BYTES(ASKED_A RR("\003", WEB)), 49, WANTED(HEADER("\000\001\000\001\000\000\000\000") PUT_ASKED_A), false));
     /* an answer of another type is no data, but for ANY */
@@ -676,6 +756,8 @@ int main(void)
     puts_edns();
     keeps_one_opt();
     begins_replies();
+    takes_codes();
+    fills();
     begins_queries();
     takes_any_writer();
     ends_at_65535_octets();

@@ -246,8 +246,10 @@ uint32_t dnw_message_read(const uint8_t *message, size_t message_len, size_t max
 
 /* Stores in `is_reply` whether a message answers a request (RFC 5452, section 9.1): QR is set in the response and not in the
    request, its id and opcode are those of the request, and each of them has one question, with the same type, the same class
-   and the same name, ignoring case. Addresses and ports are the caller's to compare. It does not allocate. It fails as
-   dnw_message_read with DNW_MAX_POINTERS if one of them is not a complete message. */
+   and the same name, ignoring case. A response may have no question if the request has none (RFC 7873, section 5.4), if it
+   is to an UPDATE (RFC 2136, section 3.8), or if its code is FORMERR, SERVFAIL, NOTIMP or REFUSED. Addresses and ports are
+   the caller's to compare. It does not allocate. It fails as dnw_message_read with DNW_MAX_POINTERS if one of them is not a
+   complete message. */
 uint32_t dnw_is_reply_to(const uint8_t *request, size_t request_len, const uint8_t *response, size_t response_len,
                          bool *is_reply);
 
@@ -906,18 +908,25 @@ struct dnw_writer {
 uint32_t dnw_writer_begin(uint8_t *message, size_t message_size, size_t max_size, uint16_t id, uint16_t flags,
                           struct dnw_writer *writer);
 
-/* Begins the reply to a request: its id, operation code, RD and CD, QR, and its question, with AA, RA, AD and the response
-   code of `flags`. It stores in `edns` what the reply needs: `is_present` is whether it needs an OPT record, for which
+/* Begins the reply to a request: its id, operation code, RD and CD, QR, and its question, with AA, RA and AD of `flags`,
+   and a response code. It stores in `edns` what the reply needs: `is_present` is whether it needs an OPT record, for which
    DNW_EDNS_SIZE octets are held back then (dnw_writer_edns gives them back); `dnssec_ok` and `max_payload` are those of the
    request, 512 without EDNS; the others are 0. Its `response_code` is that of the reply, whose high bits are
-   `response_code >> 4`: mostly that of `flags`; BADVERS (16) if the version of EDNS is above 0 (RFC 6891, section 6.1.3);
-   FORMERR (1), without an OPT record, if the request is not complete, its EDNS is not valid (RFC 6891, section 7), or it
-   has more than one question (RFC 9619). Over UDP a caller then lowers `writer->max_size` to `edns->max_payload`.
+   `response_code >> 4`: mostly the given one; BADVERS (16) if the version of EDNS is above 0 (RFC 6891, section 6.1.3);
+   and FORMERR (1) if the request is not complete, its EDNS is not valid (RFC 6891, section 7), or it has more than one
+   question (RFC 9619): in the first two cases the reply has no OPT record. Over UDP a caller then lowers
+   `writer->max_size` to `edns->max_payload`.
 
-   It fails with DNW_BAD_ITEM if the request has no whole header, or is a response; and with DNW_MESSAGE_TOO_LONG if the
-   header or the question does not fit. Then the buffer may hold anything. It does not allocate. */
+   A reply with FORMERR, NOTIMP (4) or BADVERS is whole without a record: only additional records may follow, which are
+   OPT, and TSIG or SIG(0).
+
+   It fails with DNW_BAD_ITEM if the request has no whole header, or is a response; or if the code is above 15 and the
+   request has no EDNS, as then the reply has none either (RFC 6891, section 7), or above 4095. It fails with
+   DNW_MESSAGE_TOO_LONG if the header or the question does not fit. Then the buffer may hold anything. It does not
+   allocate. */
 uint32_t dnw_writer_reply(uint8_t *message, size_t message_size, size_t max_size, const uint8_t *request,
-                          size_t request_len, uint16_t flags, struct dnw_writer *writer, struct dnw_edns *edns);
+                          size_t request_len, uint16_t flags, uint16_t response_code, struct dnw_writer *writer,
+                          struct dnw_edns *edns);
 
 /* Begins a query: its id, RD if `recursion_desired` is set, and a question, the wire form of a name, a type and a class. If
    `max_payload` is not 0, an OPT record says that the sender accepts messages of so many octets, or of 512 if it is less
@@ -967,11 +976,22 @@ uint32_t dnw_writer_edns(uint8_t *message, size_t message_size, size_t held, uin
                          struct dnw_writer *writer);
 
 /* Adds a record to the Additional section after which no item may follow, as TSIG (RFC 8945, section 5.1) or SIG(0), and
-   gives back `held` octets first. Any type is taken: the caller says which record is the last. It fails as
-   dnw_writer_record. */
+   gives back `held` octets first. Its owner is not compressed, so that it has as many octets as were held back for it, and
+   the message is a multiple of the block that dnw_writer_edns padded it to. Any type is taken: the caller says which record
+   is the last. It fails as dnw_writer_record. */
 uint32_t dnw_writer_last(uint8_t *message, size_t message_size, size_t held, const uint8_t *owner, size_t owner_len,
                          uint16_t record_type, uint16_t record_class, uint32_t ttl, const uint8_t *data, size_t data_len,
                          struct dnw_writer *writer);
+
+/* Adds records of a list of items from offset `start` on, each after an octet of enum dnw_list_item for its section, as
+   dnw_message_write takes them: all, or up to the first that is not added. It stores in `next` the offset of the item that
+   is next, `items_len` after the last one. So a response to AXFR or IXFR is split into messages (RFC 5936, section 2.2):
+   each is begun, as by dnw_writer_reply, and filled from `next` of the one before.
+
+   If the first of them is not added, the call fails and changes nothing: with DNW_BAD_ITEM if `start` is after the end of
+   the list or no record is there, and otherwise as dnw_writer_record. So a loop always comes to an end. */
+uint32_t dnw_writer_fill(uint8_t *message, size_t message_size, const uint8_t *items, size_t items_len, size_t start,
+                         struct dnw_writer *writer, size_t *next);
 
 /* The first octet of an item of dnw_message_write: its section, and for a record one of the others joined by `|`. */
 enum dnw_list_item {
@@ -991,15 +1011,16 @@ enum dnw_list_item {
    bits of the response code, the version and DO), then TSIG or SIG(0). Their octets are held back from the start.
 
    Successive records with the same octet, owner (ignoring case), type and class are a set, and are written whole or not at
-   all (RFC 2181, section 5). If a set does not fit, it and the later ones of its section are left out, and TC is set if one
-   of their records is required. `result` has the length of the message and its TC bit. Names of questions and owners may be
-   compressed: they are read with the list as their message. It does not allocate.
+   all (RFC 2181, section 5); the RRSIG records after a set of NS records that cover it are of the set. If a set does not
+   fit, it and the later ones of its section are left out, and TC is set if one of their records is required. `result` has
+   the length of the message and its TC bit. Names of questions and owners may be compressed: they are read with the list as
+   their message. It does not allocate.
 
    A request (QR is clear in `flags`) and a response to a question for AXFR or IXFR are never cut. Otherwise these are
    required (RFC 2181, section 9), unless the octet says otherwise:
    - all answers, and every record if the operation is not QUERY;
-   - all authorities, as SOA (RFC 2308), NSEC and NSEC3, DS, and their signatures (RFC 4035, section 3.1); but not NS and
-     its signatures if there is an answer of the type that the first question asks for;
+   - all authorities, as SOA (RFC 2308), NSEC and NSEC3, DS, and their signatures (RFC 4035, section 3.1); but not NS if
+     there is an answer of the type that the first question asks for, and then its signatures only if it is written;
    - additional records of type A and AAAA if there is no such answer and their owner is that of the first NS of the Authority
      section or below it (RFC 9471).
 

@@ -14,7 +14,7 @@ www.example.com. 60 IN A 192.0.2.1
 `help(dns_names_wire.Message)`, or `pydoc dns_names_wire.Message`, explains a class or a function:
 
 messages    Message, Header, Question, Edns, OpCode, ResponseCode; make_query, make_response;
-            MessageWriter writes a message step by step
+            MessageWriter writes a message step by step; transfer, those of a zone
 options     EdnsOption, OptionData, with a class for each option, as ClientSubnet or Cookie, and
             UnknownOption for any other
 records     Record, RRset; rrsets, read_record, records, parse_ttl; RecordType, RecordClass, with
@@ -90,6 +90,7 @@ from ._table import FieldValue as FieldValue
 from ._text import parse_ttl as parse_ttl
 from ._types import TypeSet as TypeSet, serial_add as serial_add, serial_compare as serial_compare
 from ._writer import MessageWriter as MessageWriter
+from ._writer import transfer as transfer
 from ._zones import (
     ZoneError as ZoneError, ZoneFinding as ZoneFinding, check_zone as check_zone, read_zone as read_zone, zone_lines as zone_lines,
 )

@@ -5,13 +5,13 @@ import struct
 from ctypes import addressof, byref, c_bool
 from dataclasses import dataclass
 from functools import lru_cache
-from typing import TYPE_CHECKING, Any, Callable, Dict, Iterable, Iterator, List, Optional, Tuple, Type
+from typing import TYPE_CHECKING, Any, Callable, Dict, Iterable, List, Optional, Tuple, Type
 
 from . import _checks
 from ._checks import Bytes
 from ._codes import OpCode, RecordClass, RecordType, ResponseCode, code_of
 from ._data import NameLike, TypeLike, put_pairs, take_pairs
-from ._errors import SECTIONS, DataTooLong, DnsError, check, check_item
+from ._errors import SECTIONS, DataTooLong, check, check_item
 from ._library import (
     ROOM_SIZE,
     MessageFault,
@@ -26,6 +26,8 @@ from ._library import (
 )
 from ._library import Edns as ReadEdns
 from ._library import Message as Read
+from ._library import Writer
+from ._listing import message_lines
 from ._names import Name, whole_name
 from ._options import EdnsOption
 from ._records import Record, record_at
@@ -36,8 +38,8 @@ from ._table import Table, read_table
 _CODES = struct.Struct("!HH")
 # An OPT record before its data: the root, the type, the size, the high bits of the response code, the version, the
 # flags, and the number of octets of options.
-_OPT = struct.Struct("!xHHBBHH")
-_DNSSEC_OK = 0x8000
+# The octets of an OPT record without options.
+_OPT_SIZE = 11
 # The id, the flags and the codes, and the counts of a header; and the first two of these.
 _HEADER = struct.Struct("!HHHHHH")
 _head_of: Any = struct.Struct("!HH").unpack_from
@@ -51,7 +53,7 @@ _MAX_POINTERS = 65536
 _MOST_ITEMS = ROOM_SIZE - _HEADER_SIZE
 _message_write = by_address("dnw_message_write", 8)
 _writer_query = by_address("dnw_writer_query", 11)
-_writer_reply = by_address("dnw_writer_reply", 8)
+_writer_reply = by_address("dnw_writer_reply", 9)
 _MOST_POINTERS = 2**64 - 1
 
 
@@ -166,8 +168,17 @@ class Edns:
         if len(options) > _MOST:
             raise DataTooLong()
         payload, version = _checks.number("max_payload", self.max_payload, _MOST), _checks.number("version", self.version, 255)
-        flags = _DNSSEC_OK if self.dnssec_ok else 0
-        return _OPT.pack(RecordType.OPT, payload, code >> 4, version, flags, len(options)) + options
+        return _opt_record(payload, code >> 4, version, bool(self.dnssec_ok), options)
+
+
+@lru_cache(maxsize=256)
+def _opt_record(payload: int, high: int, version: int, dnssec_ok: bool, options: bytes) -> bytes:
+    """Returns the OPT record that the library writes into a message without other items."""
+    room, writer = room_of(_HEADER_SIZE + _OPT_SIZE + len(options)), Writer()
+    size, state = len(room), byref(writer)
+    check(library.dnw_writer_begin(room, size, size, 0, 0, state))
+    check(library.dnw_writer_edns(room, size, 0, payload, high, version, dnssec_ok, options, len(options), 0, state))
+    return taken(room, writer.len)[_HEADER_SIZE:]
 
 
 class Message:
@@ -250,8 +261,8 @@ class Message:
         needs EDNS, so the message then always has an OPT record (RFC 6891, section 6.1.3). `required` is records of the
         Additional section, before the others, that are not left out without TC. Glue below a cut never is (RFC 9471).
 
-        Raises `ValueError` if a section has more than 65535 items or a number is out of bounds, and `DataTooLong` if
-        the options have more than 65535 octets.
+        Raises `ValueError` if a section has more than 65535 items or a number is out of bounds, `DataTooLong` if the
+        options have more than 65535 octets, and `MessageTooLong` if no message has room for them.
 
         >>> from dns_names_wire import MX, Header, Record
         >>> record = Record("a.", 60, MX(10, "mail.a."))
@@ -323,19 +334,21 @@ class Message:
         edns: Optional[Edns] = None,
     ) -> "Message":
         """Makes a reply to this request. It repeats the id, the operation code, RD, CD and the question of the request
-        (RFC 1035, section 4.1.1; RFC 4035, section 3.2.2). It has EDNS if the request has (RFC 6891, section 6.1.1):
-        `edns`, or the same DO, version 0, and 1232 octets as the largest message that is accepted. `required` is as in
-        `build`.
+        (RFC 1035, section 4.1.1; RFC 4035, section 3.2.2). It has EDNS if the request has, and only then (RFC 6891, sections
+        6.1.1 and 7): `edns`, or the same DO, version 0, and 1232 octets as the largest message that is accepted. `required`
+        is as in `build`.
 
         The default response code is NOERROR. It is always BADVERS if the version of the request's EDNS is above 0 (RFC
-        6891, section 6.1.3), and FORMERR, without a question and EDNS, if that is not valid (section 7) or a query has
-        more than one question (RFC 9619). Raises `BadItem` if the request is a response.
+        6891, section 6.1.3), and FORMERR if that is not valid (section 7; the reply then has no EDNS) or the request has more
+        than one question (RFC 9619; the reply then has no question). A reply with one of these codes, or NOTIMP, is whole
+        without a record: all but OPT, TSIG and SIG(0) are left out. Raises `BadItem` if the request is a response, or if it
+        has no EDNS and the code is above 15.
 
         >>> Message.query("a.", RecordType.NS, id=7).reply(response_code=ResponseCode.NXDOMAIN)
         <Message 7 QR RD [1, 0, 0, 0]>
         """
         wanted = 0 if response_code is None else _checks.number("response_code", response_code, 4095)
-        flags = wanted & 15
+        flags = 0
         if authoritative:
             flags |= 0x400
         if recursion_available:
@@ -348,27 +361,30 @@ class Message:
         except IndexError:
             room = Room()
         failure = _writer_reply(
-            room.octets_at, ROOM_SIZE, _MOST, request, len(request), flags, room.writer_at, room.edns_at
+            room.octets_at, ROOM_SIZE, _MOST, request, len(request), flags, wanted, room.writer_at, room.edns_at
         )  # fmt: skip
         if failure:
             check(failure)
         head: Any = room.octets[: room.writer.len]
-        asked, opt = room.edns, None
+        asked, opt, takes_records = room.edns, None, room.writer.rank == 0
         if asked.is_present:
-            # The high bits are those of the given code, unless the library says another code.
             code = asked.response_code
-            high = (wanted if wanted & 15 == code else code) >> 4
-            opt = _opt_of_reply(high, asked.dnssec_ok) if edns is None else edns._record(high << 4)
+            opt = (edns_of_reply(asked.dnssec_ok) if edns is None else edns)._record(code)
         give_back(room)
         made = _new_made(_Made)
         made._head, made._asked, made._opt = _head_of(head), b"\0" + head[12:] if len(head) > 12 else b"", opt
-        made._answers, made._authorities = tuple(answers), tuple(authorities)
-        made._required, made._others = tuple(required), tuple(additionals)
+        if takes_records:
+            made._answers, made._authorities = tuple(answers), tuple(authorities)
+            made._required, made._others = tuple(required), tuple(additionals)
+        else:
+            made._answers = made._authorities = made._required = ()
+            made._others = tuple(filter(_is_last, additionals))
         return made
 
     def is_reply_to(self, request: "Message") -> bool:
-        """Returns whether this is a response with the id, the operation code and the questions of a request, which is no
-        response itself (RFC 5452, section 9.1).
+        """Returns whether this is a response with the id, the operation code and the question of a request, which is no
+        response itself (RFC 5452, section 9.1). It may have no question if the request has none (RFC 7873, section 5.4), if
+        it is to an UPDATE (RFC 2136, section 3.8), or if its code is FORMERR, SERVFAIL, NOTIMP or REFUSED.
 
         >>> request = Message.query("a.", RecordType.NS)
         >>> request.reply().is_reply_to(request), request.is_reply_to(request)
@@ -511,7 +527,7 @@ class Message:
         return _read_again, (self.wire + self.trailing, self._pointers())
 
     def __str__(self) -> str:
-        return "\n".join(_lines(self))
+        return "\n".join(message_lines(self))
 
     def __repr__(self) -> str:
         counts = [len(part) for part in (self.questions, self.answers, self.authorities, self.additionals)]
@@ -700,16 +716,6 @@ def edns_of_reply(dnssec_ok: bool) -> Edns:
     return _WITH_DO if dnssec_ok else _WITHOUT_DO
 
 
-def _opt_of_reply(high: int, dnssec_ok: bool) -> bytes:
-    """Returns the OPT record of such a reply, with the high bits of its response code."""
-    key = high << 1 | dnssec_ok
-    own = _KEPT_OPT.get(key)
-    if own is None:
-        own = _KEPT_OPT[key] = edns_of_reply(dnssec_ok)._record(high << 4)
-    return own
-
-
-_KEPT_OPT: Dict[int, bytes] = {}
 _new_read: Callable[[Type[_Read]], _Read] = object.__new__
 _new_made: Callable[[Type[_Made]], _Made] = object.__new__
 
@@ -761,34 +767,6 @@ def make_response(query: Message, *, recursion_available: bool = False) -> Messa
     <Message 7 QR RD [1, 0, 0, 0]>
     """
     return query.reply(recursion_available=recursion_available)
-
-
-# The titles of the sections, and those of an update (RFC 2136, section 2).
-_TITLES = ("QUESTION", "ANSWER", "AUTHORITY", "ADDITIONAL")
-_UPDATE_TITLES = ("ZONE", "PREREQUISITE", "UPDATE", "ADDITIONAL")
-
-
-def _lines(message: Message) -> Iterator[str]:
-    """Returns the lines that `dig` prints for a message, with spaces in place of tabs."""
-    try:
-        edns, status = message.edns, message.response_code
-    except DnsError:
-        edns, status = None, message.header.response_code
-    header, sections = message.header, (message.answers, message.authorities, message.additionals)
-    counts = zip(("QUERY", *_TITLES[1:]), (message.questions, *sections))
-    yield f";; ->>HEADER<<- opcode: {header.op_code}, status: {status}, id: {message.id}"
-    yield f";; {' '.join(['flags:', *header.flags]).lower()}; {', '.join(f'{title}: {len(part)}' for title, part in counts)}"
-    if edns is not None:
-        yield from ("", ";; OPT PSEUDOSECTION:")
-        yield f"; EDNS: version: {edns.version}, flags:{' do' * edns.dnssec_ok}; udp: {edns.max_payload}"
-        yield from (f"; {option}" for option in edns.options)
-    titles = _UPDATE_TITLES if header.op_code == OpCode.UPDATE else _TITLES
-    if message.questions:
-        yield from ("", f";; {titles[0]} SECTION:", *(f";{question}" for question in message.questions))
-    for title, records in zip(titles[1:], sections):
-        shown = [str(record) for record in records if edns is None or record.record_type != RecordType.OPT]
-        if shown:
-            yield from ("", f";; {title} SECTION:", *shown)
 
 
 @lru_cache(maxsize=1024)

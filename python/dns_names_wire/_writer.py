@@ -1,7 +1,7 @@
 """Messages written item by item."""
 
-from ctypes import byref, c_char
-from typing import Iterable, Optional, Tuple
+from ctypes import byref, c_char, c_size_t
+from typing import Iterable, Iterator, Optional, Tuple
 
 from . import _checks
 from ._data import put_pairs
@@ -113,13 +113,14 @@ class MessageWriter:
         writer = cls.__new__(cls)
         writer._set(max_size, buffer)
         code = _checks.number("response_code", response_code, 4095)
-        flags = code & 15 | bool(authoritative) << 10 | bool(recursion_available) << 7 | bool(authentic_data) << 5
+        flags = bool(authoritative) << 10 | bool(recursion_available) << 7 | bool(authentic_data) << 5
         wire, asked = request.wire, ReadEdns()
         room, most = writer._room, writer._max_size
-        check(library.dnw_writer_reply(room, len(room), most, wire, len(wire), flags, byref(writer._state), byref(asked)))
+        check(library.dnw_writer_reply(
+            room, len(room), most, wire, len(wire), flags, code, byref(writer._state), byref(asked)
+        ))  # fmt: skip
         writer._owed_edns = edns_of_reply(asked.dnssec_ok) if asked.is_present else None
-        # The high bits are those of the given code, unless the library says another code.
-        writer._code = code if code & 15 == asked.response_code else asked.response_code
+        writer._code = asked.response_code
         return writer
 
     @property
@@ -226,6 +227,31 @@ class MessageWriter:
         if self._owed_edns is not None:
             self.edns()
         return bytes(self._buffer[: self._state.len])
+
+
+def transfer(request: Message, records: Iterable[Record], max_size: int = _MOST) -> Iterator[bytes]:
+    """Yields the messages of a response to AXFR or IXFR over TCP (RFC 5936, section 2.2; RFC 1995, section 4): each a reply
+    to the request, with AA and the question, and with as many of the records as it has room for. The records are those of
+    the Answer sections, in their order: of an AXFR the SOA record of the zone comes first and last. A request that has to be
+    refused, as `Message.reply` says, gets one message without records. Raises `MessageTooLong` if a record has no room.
+
+    >>> from dns_names_wire import Record, make_query
+    >>> lines = ["a. 60 SOA a. a. 1 2 3 4 5", "a. 60 NS b.a.", "b.a. 60 A 192.0.2.1", "a. 60 SOA a. a. 1 2 3 4 5"]
+    >>> messages = transfer(make_query("a.", "AXFR", id=7), [Record.from_text(line) for line in lines], max_size=100)
+    >>> [len(Message.from_wire(octets).answers) for octets in messages]
+    [3, 1]
+    """
+    items, at = b"".join([part for record in records for part in (b"\1", record.to_wire())]), c_size_t()
+    while True:
+        writer = MessageWriter.reply(request, max_size, authoritative=True)
+        if writer._code:
+            at.value = len(items)
+        else:
+            room, state = writer._room, byref(writer._state)
+            check(library.dnw_writer_fill(room, len(room), items, len(items), at.value, state, byref(at)))
+        yield writer.finish()
+        if at.value == len(items):
+            return
 
 
 def _counted(octets: bytes) -> Tuple[bytes, bytes]:

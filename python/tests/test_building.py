@@ -176,7 +176,7 @@ class Messages(unittest.TestCase):
         for option in [(65536, b""), (0, bytes(65536))]:
             self.assertRaises(ValueError, Edns, options=(option,))
         self.assertRaises(dnw.DataTooLong, Message.build, edns=Edns(options=((0, bytes(65532)),)))
-        self.assertRaises(dnw.MessageTooLong, Message.build(edns=Edns(options=((0, bytes(65509)),))).to_wire, 65535)
+        self.assertRaises(dnw.MessageTooLong, Message.build, edns=Edns(options=((0, bytes(65509)),)))
         most = Message.build(edns=Edns(options=((0, bytes(65508)),)))
         self.assertEqual(len(most.to_wire(65535)), 65535)
         record = Record(Name("."), 0, dnw.Unknown(65280, b""))

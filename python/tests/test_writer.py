@@ -1,6 +1,7 @@
 """Messages written item by item, and as lists. Expected octets are worked out by hand from RFC 1035, sections 4.1.1 to
 4.1.4, RFC 2181, sections 5 and 9, RFC 6891, section 6.1, RFC 7830 and RFC 9471."""
 
+import contextlib
 import doctest
 import random
 import signal
@@ -229,6 +230,10 @@ class Lists(unittest.TestCase):
             (query.reply([], [ns], [glue]), True),
             (query.reply([], [ns], [signed("ns.a.", "AAAA")]), False),
             # Beside data NS is extra information (RFC 2181, section 9).
+            (query.reply([address], [ns], [glue]), False),
+            # Servers that are there have to be signed (RFC 4035, section 3.1.1), so they go with their signatures.
+            (query.reply([address], [ns, signed("a.", "NS")]), False),
+            (query.reply([address], [ns, rr("b. 60 NS ns.b."), signed("a.", "NS")]), True),
             (query.reply([address], [ns, signed("a.", "NS")], [glue]), False),
             (query.reply([address], [], [glue]), False),
         ]:
@@ -285,6 +290,71 @@ class Lists(unittest.TestCase):
             Message.from_wire(REFERRAL).reply()
         update = Message.build(Header(7, op_code=OpCode.UPDATE), [Question("a.", "SOA")])
         self.assertEqual(update.reply().header.op_code, OpCode.UPDATE)
+
+    def test_a_reply_has_edns_only_if_the_request_has(self) -> None:
+        # also to two questions (RFC 6891, sections 6.1.1 and 7)
+        two = Message.build(Header(7), [QUESTION, QUESTION], edns=Edns(dnssec_ok=True)).reply()
+        self.assertEqual((two.response_code, two.edns), (ResponseCode.FORMERR, Edns(dnssec_ok=True)))
+        plain = make_query("a.", "A")
+        for code in [16, 23, 4095]:
+            for reply in [plain.reply, lambda **code: MessageWriter.reply(plain, **code)]:
+                with self.assertRaises(dnw.BadItem):
+                    reply(response_code=code)
+        self.assertEqual(plain.reply(response_code=15).header.response_code, 15)
+        for code in [16, 23, 4095]:
+            self.assertEqual(make_query("a.", "A", payload=1232).reply(response_code=code).response_code, code)
+
+    def test_a_refusal_is_whole_without_a_record(self) -> None:
+        later = Message.build(Header(7), [QUESTION], edns=Edns(version=1))
+        for reply in [later.reply([GLUE], [GLUE], [GLUE, KEY], required=[GLUE]), later.reply([GLUE], [], [KEY], response_code=4)]:
+            self.assertEqual(counts(reply.to_wire()), [1, 0, 0, 2])
+            self.assertEqual(Message.from_wire(reply.to_wire()).additionals[1], KEY)
+        for code, fails in [(1, True), (2, False), (3, False), (4, True), (5, False)]:
+            writer = MessageWriter.reply(make_query("a.", "A"), response_code=code)
+            self.assertEqual(counts(make_query("a.", "A").reply([GLUE], response_code=code).to_wire()), [1, int(not fails), 0, 0])
+            with self.assertRaises(dnw.BadItem) if fails else contextlib.nullcontext():
+                writer.answer(GLUE)
+
+    def test_replies_without_the_question(self) -> None:
+        for op_code, code, without in [
+            (0, 0, False), (0, 1, True), (0, 2, True), (0, 3, False), (0, 4, True), (0, 5, True), (0, 9, False), (5, 0, True),
+            (4, 0, False),
+        ]:  # fmt: skip
+            request = Message.build(Header(7, op_code=op_code), [QUESTION])
+            bare = Header(7, is_response=True, op_code=op_code, response_code=code)
+            self.assertEqual(Message.build(bare).is_reply_to(request), without, (op_code, code))
+            self.assertTrue(Message.build(bare, [QUESTION]).is_reply_to(request))
+            self.assertFalse(Message.build(bare, [Question("b.", "SOA")]).is_reply_to(request))
+            # none was asked (RFC 7873, section 5.4)
+            self.assertTrue(Message.build(bare).is_reply_to(Message.build(Header(7, op_code=op_code))))
+        self.assertTrue(Message.build(Header(7), [QUESTION, QUESTION]).reply().is_reply_to(Message.build(Header(7), [QUESTION])))
+
+    def test_the_last_record_is_as_long_as_what_is_held(self) -> None:
+        key = Record(QUESTION.name, 0, KEY.data, RecordClass.ANY)
+        for block in [1, 32, 128, 468]:
+            writer = MessageWriter(HEADER)
+            writer.question(QUESTION)
+            writer.hold(len(key.to_wire()))
+            writer.edns(block=block)
+            writer.last(key, held=len(key.to_wire()))
+            self.assertEqual((len(writer.finish()) % block, Message.from_wire(writer.finish()).additionals[1]), (0, key))
+
+    def test_a_transfer_is_split(self) -> None:
+        soa = Record.from_text("a. 60 SOA a. a. 1 2 3 4 5")
+        records = [soa, *(Record(f"host-{i}.a.", 60, A("192.0.2.1")) for i in range(3000)), soa]
+        for payload, max_size in [(None, 65535), (1232, 65535), (None, 512), (1232, 512), (None, 100)]:
+            request = make_query("a.", "AXFR", payload=payload)
+            messages = [Message.from_wire(octets) for octets in dnw.transfer(request, records, max_size)]
+            self.assertEqual([record for message in messages for record in message.answers], records)
+            for message in messages:
+                self.assertTrue(message.is_reply_to(request) and message.header.authoritative and not message.header.truncation)
+                self.assertTrue(len(message.wire) <= max_size and message.answers)
+                self.assertEqual(message.edns is None, payload is None)
+        with self.assertRaises(dnw.MessageTooLong):
+            list(dnw.transfer(make_query("a.", "AXFR"), records, 40))
+        refused = list(dnw.transfer(Message.build(Header(7), [QUESTION, QUESTION]), records))
+        self.assertEqual([counts(octets) for octets in refused], [[0, 0, 0, 0]])
+        self.assertEqual([counts(octets) for octets in dnw.transfer(make_query("a.", "AXFR"), [])], [[1, 0, 0, 0]])
 
     def test_data_that_are_not_of_their_type(self) -> None:
         for data in [Unknown(1, b"abc"), Unknown(2, b"\xc0\x0c"), Unknown(15, b"\0\1")]:

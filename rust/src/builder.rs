@@ -32,8 +32,6 @@ const USUAL_SIZE: usize = 512;
 const REPLY_SIZE: usize = HEADER_SIZE + ffi::FORM_SIZE + 4;
 /// The largest message that a reply accepts, in octets. It goes through most networks without fragmentation.
 const USUAL_PAYLOAD: u16 = 1232;
-/// DO, in the high octet of the low half of the TTL of an OPT record.
-const DNSSEC_OK: u8 = 0x80;
 /// The greatest response code that fits in a header.
 const MOST_IN_HEADER: u16 = 15;
 
@@ -78,6 +76,10 @@ pub struct MessageBuilder {
     /// The offset at which each section ends.
     ends: [usize; SECTIONS],
     edns: Option<Opt>,
+    /// Whether it may have EDNS: a reply does if its request has.
+    takes_edns: bool,
+    /// Whether it is a reply that has to refuse its request, with this code and without records.
+    is_refusal: bool,
     /// The last record.
     last: Option<RecordBuf>,
     /// Why there is no such reply.
@@ -103,8 +105,16 @@ impl MessageBuilder {
     /// # Ok::<(), dns_names_wire::Error>(())
     /// ```
     pub fn new(header: Header) -> Self {
-        let items = Vec::with_capacity(USUAL_SIZE);
-        MessageBuilder { header, items, ends: [0; SECTIONS], edns: None, last: None, failure: None }
+        MessageBuilder {
+            header,
+            items: Vec::with_capacity(USUAL_SIZE),
+            ends: [0; SECTIONS],
+            edns: None,
+            takes_edns: true,
+            is_refusal: false,
+            last: None,
+            failure: None,
+        }
     }
 
     /// Returns a query for records of a name, of class IN, with RD set.
@@ -130,13 +140,15 @@ impl MessageBuilder {
     }
 
     /// Returns a reply to a request, as [`MessageWriter::reply_to`] begins it: with its id, operation code, RD, CD and
-    /// question. It has EDNS if the request has (RFC 6891, section 6.1.1), with the same DO (RFC 3225, section 3),
-    /// version 0, and 1232 octets as the largest message that is accepted.
+    /// question. It has EDNS if the request has, and only then (RFC 6891, sections 6.1.1 and 7): with the same DO (RFC
+    /// 3225, section 3), version 0, and 1232 octets as the largest message that is accepted, or what
+    /// [`edns`](MessageBuilder::edns) says.
     ///
     /// [`MessageWriter::reply_to`]: crate::MessageWriter::reply_to
     ///
-    /// The response code is `NoError`; or `BADVERS` or `FormErr` if the request is not one to answer. If the request is
-    /// itself a response, [`finish`](MessageBuilder::finish) fails with `BadItem`.
+    /// The response code is `NoError`, or what [`response_code`](MessageBuilder::response_code) says. If the request is not
+    /// one to answer, it is `BADVERS` or `FormErr`, whatever that says, and the records of the sections are left out. If
+    /// the request is itself a response, [`finish`](MessageBuilder::finish) fails with `BadItem`.
     ///
     /// ```
     /// use dns_names_wire::{Message, MessageBuilder, Name, RecordType};
@@ -156,9 +168,10 @@ impl MessageBuilder {
 
     fn begin_reply(&mut self, request: &Message<'_>) -> Result<(), Error> {
         let (mut room, mut writer) = ([0; REPLY_SIZE], ffi::Writer::none());
-        let edns = writer.reply(&mut room, REPLY_SIZE, request.octets(), 0)?;
+        let edns = writer.reply(&mut room, REPLY_SIZE, request.octets(), (0, 0))?;
         self.begin_as(&room[..writer.len]);
         self.header.response_code = edns.response_code.into();
+        (self.takes_edns, self.is_refusal) = (edns.is_present, edns.response_code != 0);
         if edns.is_present {
             let (max_payload, version, dnssec_ok) = (USUAL_PAYLOAD, 0, edns.dnssec_ok);
             self.edns = Some(Opt { max_payload, version, dnssec_ok, options: Vec::new() });
@@ -230,7 +243,7 @@ impl MessageBuilder {
     }
 
     /// Sets the response code. One above 15 needs EDNS, so the message then has an OPT record (RFC 6891, section
-    /// 6.1.3).
+    /// 6.1.3); a reply to a request without EDNS can't, and [`finish`](MessageBuilder::finish) fails with `BadItem`.
     ///
     /// ```
     /// use dns_names_wire::{Header, Message, MessageBuilder, ResponseCode};
@@ -240,11 +253,14 @@ impl MessageBuilder {
     /// # Ok::<(), dns_names_wire::Error>(())
     /// ```
     pub fn response_code(&mut self, code: ResponseCode) -> &mut Self {
-        self.header.response_code = code;
+        if !self.is_refusal {
+            self.header.response_code = code;
+        }
         self
     }
 
-    /// Sets the EDNS fields, in place of those set before. `finish` writes the OPT record last.
+    /// Sets the EDNS fields, in place of those set before. `finish` writes the OPT record last. A reply has them only if its
+    /// request has EDNS (RFC 6891, section 7).
     ///
     /// ```
     /// use dns_names_wire::{Edns, Header, Message, MessageBuilder, Pairs};
@@ -465,7 +481,7 @@ impl MessageBuilder {
     /// EDNS, and 65535 over TCP.
     ///
     /// Successive records of a section with the same owner, type and class are a set, which is written whole or left out
-    /// (RFC 2181, section 5). If a set does not fit, it and the later ones of its section are left out. TC is set if one
+    /// (RFC 2181, section 5); the signatures after NS records are of their set. If a set does not fit, it and the later ones of its section are left out. TC is set if one
     /// of them is required (RFC 2181, section 9): all answers are; all authorities, but for NS beside an answer of the type
     /// that was asked for; and the addresses of name servers below a cut (RFC 9471). [`records`](MessageBuilder::records)
     /// says otherwise. The questions, the OPT record and the last record are never left out, and nothing is left out of a
@@ -473,9 +489,9 @@ impl MessageBuilder {
     ///
     /// # Errors
     ///
-    /// `NoRoom` if `max_size` is less than 12; `MessageTooLong` if there is no room for what is never left out; `BadData`
-    /// if the data of a record are not those of its type; or `BadItem` if this is a reply to a response, or if records
-    /// were added to no section of records.
+    /// `MessageTooLong` if there is no room for the header and for what is never left out; `BadData`
+    /// if the data of a record are not those of its type; or `BadItem` if this is a reply to a response, if records were
+    /// added to no section of records, or if the response code is above 15 and the request has no EDNS.
     ///
     /// ```
     /// use dns_names_wire::{ErrorKind, Message, MessageBuilder, Name, RecordType, Texts, RData};
@@ -523,12 +539,14 @@ impl MessageBuilder {
 
     /// Puts the whole list of items.
     fn put_list(&self, list: &mut Room) -> Result<(), Error> {
-        list.extend_from_slice(&self.items);
+        let len = if self.is_refusal { self.ends[usize::from(QUESTIONS)] } else { self.items.len() };
+        list.extend_from_slice(&self.items[..len]);
         let code = u16::from(self.header.response_code);
         match &self.edns {
-            Some(edns) => edns.put(code, list)?,
-            None if code > MOST_IN_HEADER => Opt::of(&Edns::new(USUAL_PAYLOAD)).put(code, list)?,
-            None => {}
+            Some(edns) if self.takes_edns => edns.put(code, list)?,
+            _ if code <= MOST_IN_HEADER => {}
+            _ if self.takes_edns => Opt::of(&Edns::new(USUAL_PAYLOAD)).put(code, list)?,
+            _ => return Err(ErrorKind::BadItem.into()),
         }
         if let Some(record) = &self.last {
             list.extend_from_slice(&[ADDITIONALS | LAST]);
@@ -592,16 +610,21 @@ impl Opt {
         }
     }
 
-    /// Appends an OPT record as an item of the list: the class is the size, and the TTL has the high bits of a response
-    /// code, the version and DO. Options that are too long for a record are too long for any message.
+    /// Appends the OPT record, which the library writes into a message without other items, as an item of the list.
     fn put(&self, code: u16, list: &mut Room) -> Result<(), Error> {
-        let len = u16::try_from(self.options.len()).map_err(|_| ErrorKind::MessageTooLong)?;
-        let ([t, u], [c, d], [n, m]) =
-            (RecordType::OPT.code().to_be_bytes(), self.max_payload.to_be_bytes(), len.to_be_bytes());
-        let flags = if self.dnssec_ok { DNSSEC_OK } else { 0 };
-        let front = [ADDITIONALS | LAST, 0, t, u, c, d, (code >> 4) as u8, self.version, flags, 0, n, m];
-        list.extend_from_slice(&front);
-        list.extend_from_slice(&self.options);
+        let (mut few, mut many) = ([0; HEADER_SIZE + ffi::EDNS_SIZE], Vec::new());
+        let message = match self.options.len() {
+            0 => &mut few[..],
+            len => {
+                many.resize(few.len() + len, 0);
+                &mut many[..]
+            }
+        };
+        let mut writer = ffi::Writer::none();
+        writer.begin(message, usize::MAX, (0, 0))?;
+        writer.edns(message, (0, 0), (self.max_payload, code, self.version, self.dnssec_ok), &self.options)?;
+        list.extend_from_slice(&[ADDITIONALS | LAST]);
+        list.extend_from_slice(&message[HEADER_SIZE..writer.len]);
         Ok(())
     }
 }

@@ -54,18 +54,22 @@ impl<'a> EdnsOption<'a> {
         let own = &self.octets[parts.offset..][..parts.len];
         Ok(match self.code {
             EdnsOptionData::NSID => EdnsOptionData::Nsid(own),
-            EdnsOptionData::CLIENT_SUBNET => {
-                EdnsOptionData::ClientSubnet { family: parts.family, source: parts.source, scope: parts.scope, address: own }
-            }
+            EdnsOptionData::CLIENT_SUBNET => EdnsOptionData::ClientSubnet {
+                family: parts.family,
+                source: parts.source,
+                scope: parts.scope,
+                address: own,
+            },
             EdnsOptionData::EXPIRE => EdnsOptionData::Expire(parts.is_given.then_some(parts.seconds)),
             EdnsOptionData::COOKIE => EdnsOptionData::Cookie { client: parts.client, server: own },
             EdnsOptionData::TCP_KEEPALIVE => EdnsOptionData::TcpKeepalive(parts.is_given.then_some(parts.timeout)),
             EdnsOptionData::PADDING => EdnsOptionData::Padding(own),
             EdnsOptionData::CHAIN if parts.is_given => EdnsOptionData::Chain(Some(Name::from_wire(own)?)),
             EdnsOptionData::CHAIN => EdnsOptionData::Chain(None),
-            EdnsOptionData::EXTENDED_ERROR => {
-                EdnsOptionData::ExtendedError { code: parts.info_code, text: core::str::from_utf8(own).expect("the C library read UTF-8") }
-            }
+            EdnsOptionData::EXTENDED_ERROR => EdnsOptionData::ExtendedError {
+                code: parts.info_code,
+                text: core::str::from_utf8(own).expect("the C library read UTF-8"),
+            },
             EdnsOptionData::REPORT_CHANNEL => EdnsOptionData::ReportChannel(Name::from_wire(own)?),
             EdnsOptionData::ZONE_VERSION => EdnsOptionData::ZoneVersion(parts.is_given.then_some(ZoneVersion {
                 labels: parts.labels,

@@ -373,6 +373,7 @@ extern "C" {
         request: *const u8,
         request_len: usize,
         flags: u16,
+        response_code: u16,
         writer: *mut Writer,
         edns: *mut Edns,
     ) -> u32;
@@ -411,6 +412,15 @@ extern "C" {
         set: *const u8,
         set_len: usize,
         writer: *mut Writer,
+    ) -> u32;
+    fn dnw_writer_fill(
+        message: *mut u8,
+        message_size: usize,
+        items: *const u8,
+        items_len: usize,
+        start: usize,
+        writer: *mut Writer,
+        next: *mut usize,
     ) -> u32;
     fn dnw_writer_hold(octets: usize, writer: *mut Writer) -> u32;
     fn dnw_writer_release(octets: usize, writer: *mut Writer) -> u32;

@@ -145,7 +145,9 @@ impl RecordBuf {
         origin: Option<&Name>,
     ) -> Result<Self, Error> {
         let (mut octets, origin) = (Vec::new(), origin.map_or(&[][..], Name::as_wire));
-        let put = |octets: &mut Vec<u8>| ffi::parse_data((Class::IN.code(), record_type.code()), text.as_ref(), origin, octets);
+        let put = |octets: &mut Vec<u8>| {
+            ffi::parse_data((Class::IN.code(), record_type.code()), text.as_ref(), origin, octets)
+        };
         let fixed = put_record(&mut octets, owner.into(), (record_type, Class::IN, ttl), put)?;
         Ok(RecordBuf { octets, fixed })
     }

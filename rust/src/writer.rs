@@ -128,8 +128,9 @@ impl<'m> MessageWriter<'m> {
     ///
     /// It has the id, the operation code, RD, CD and the question of the request (RFC 1035, section 4.1.1; RFC 4035,
     /// section 3.2.2), and AA, RA, AD and the response code of `header`. But [`response_code`] is `BADVERS` if the
-    /// version of EDNS is above 0 (RFC 6891, section 6.1.3), and `FormErr`, without a question and EDNS, if the request
-    /// is not complete, its EDNS is not valid (RFC 6891, section 7), or it has more than one question (RFC 9619).
+    /// version of EDNS is above 0 (RFC 6891, section 6.1.3), and `FormErr`, without a question, if the request is not
+    /// complete, its EDNS is not valid (RFC 6891, section 7), or it has more than one question (RFC 9619). A reply with
+    /// one of these codes, or `NotImp`, is whole without a record: it takes OPT and a last record alone.
     ///
     /// If the request has EDNS, the size of the largest message that it accepts and DO are returned. Then the reply needs
     /// an OPT record, and its octets are held back until [`edns`](MessageWriter::edns). Over UDP,
@@ -139,8 +140,8 @@ impl<'m> MessageWriter<'m> {
     ///
     /// # Errors
     ///
-    /// `BadItem` if the request has no whole header or is a response; or `MessageTooLong` if there is no room for the
-    /// header or the question.
+    /// `BadItem` if the request has no whole header or is a response, or if the response code is above 15 and the request
+    /// has no EDNS; or `MessageTooLong` if there is no room for the header or the question.
     ///
     /// ```
     /// use dns_names_wire::{Header, MessageBuilder, MessageWriter, Name, RecordType};
@@ -159,7 +160,8 @@ impl<'m> MessageWriter<'m> {
         header: &Header,
     ) -> Result<(Self, Option<Edns<'static>>), Error> {
         let mut writer = MessageWriter { message, state: ffi::Writer::none(), code: 0, held: 0 };
-        let asked = writer.state.reply(writer.message, max_size, request, header.flag_bits())?;
+        let flags = (header.flag_bits(), header.response_code.into());
+        let asked = writer.state.reply(writer.message, max_size, request, flags)?;
         writer.code = asked.response_code;
         if !asked.is_present {
             return Ok((writer, None));

@@ -2,8 +2,8 @@
 //! by hand from RFC 1035, sections 4.1 and 5.1, RFC 6891, section 6.1, and RFC 2181, section 9.
 use dns_names_wire::rdata::{AMTRELAY, CSYNC, L32, L64, MX, NID, SOA, SRV, TSIG};
 use dns_names_wire::{
-    Class, Edns, Error, ErrorKind, Header, Message, MessageBuilder, Name, Need, OpCode, Pairs, RData, Record,
-    RecordBuf, RecordSet, RecordType, ResponseCode, Section, Texts, TypeSet,
+    Class, Edns, Error, ErrorKind, Header, Message, MessageBuilder, MessageWriter, Name, Need, OpCode, Pairs, RData,
+    Record, RecordBuf, RecordSet, RecordType, ResponseCode, Section, Texts, Transfer, TypeSet,
 };
 use std::net::{IpAddr, Ipv4Addr, Ipv6Addr};
 use std::slice::from_ref;
@@ -114,7 +114,7 @@ fn a_reply_has_no_more_than_the_size() {
         let error = reply.finish(size).unwrap_err();
         assert_eq!(error.to_string(), "the message would be longer than its maximum", "{size}");
     }
-    assert_eq!(MessageBuilder::new(Header::default()).finish(11).unwrap_err().kind(), ErrorKind::NoRoom);
+    assert_eq!(MessageBuilder::new(Header::default()).finish(11).unwrap_err().kind(), ErrorKind::MessageTooLong);
     assert_eq!(MessageBuilder::new(Header::default()).finish(12).unwrap(), [0; 12]);
 }
 
@@ -180,7 +180,7 @@ fn what_is_left_out_is_not_missing() {
     let (soa, ns) = (record("a. 60 SOA a. a. 1 2 3 4 5"), record("a. 60 NS ns.a."));
     let (address, glue) = (record("b.a. 60 A 192.0.2.1"), record("NS.A. 60 AAAA 2001:db8::1"));
     let (nsec, alias) = (record("c.a. 60 NSEC d.a. A RRSIG NSEC"), record("b.a. 60 CNAME x.a."));
-    let sections: [(&str, [&[RecordBuf]; 3], bool); 9] = [
+    let sections: [(&str, [&[RecordBuf]; 3], bool); 12] = [
         // A wildcard's answer has to have its proof (RFC 4035, sections 3.1.1 and 3.1.3.3).
         ("a wildcard", [from_ref(&address), &[nsec.clone(), signed("c.a.", "NSEC")], &[]], true),
         ("a proof", [from_ref(&address), &[signed("c.a.", "NSEC"), nsec], &[]], true),
@@ -193,7 +193,15 @@ fn what_is_left_out_is_not_missing() {
         ("glue", [&[], from_ref(&ns), from_ref(&glue)], true),
         ("a signature of glue", [&[], from_ref(&ns), &[signed("ns.a.", "AAAA")]], false),
         // Beside data NS is extra information (RFC 2181, section 9).
-        ("servers", [from_ref(&address), &[ns.clone(), signed("a.", "NS")], from_ref(&glue)], false),
+        ("servers", [from_ref(&address), from_ref(&ns), from_ref(&glue)], false),
+        // Servers that are there have to be signed (RFC 4035, section 3.1.1), so they go with their signatures.
+        ("signed servers", [from_ref(&address), &[ns.clone(), signed("a.", "NS")], &[]], false),
+        (
+            "servers signed later",
+            [from_ref(&address), &[ns.clone(), record("b. 60 NS ns.b."), signed("a.", "NS")], &[]],
+            true,
+        ),
+        ("signed servers and others", [from_ref(&address), &[ns.clone(), signed("a.", "NS")], from_ref(&glue)], false),
         ("others", [from_ref(&address), &[], from_ref(&glue)], false),
     ];
     for (what, [answers, authorities, additionals], is_required) in sections {
@@ -206,6 +214,32 @@ fn what_is_left_out_is_not_missing() {
         assert_eq!(Message::read(&cut).unwrap().header().truncation, is_required, "{what}");
         assert_eq!(Message::read(&whole).unwrap().to_wire(whole.len() as u16 - 1).unwrap(), cut, "{what}");
     }
+}
+
+/// The sections of an UPDATE have titles of their own, as dig and nsupdate print them (RFC 2136, section 2).
+#[test]
+fn an_update_has_its_titles() {
+    let mut header = Header::default();
+    (header.id, header.op_code) = (7, OpCode::Update);
+    let mut update = MessageBuilder::new(header);
+    update.question(&name("example."), RecordType::SOA, Class::IN);
+    update.answers([record("a.example. 0 NONE ANY \\# 0")]).authorities([record("b.example. 60 A 192.0.2.1")]);
+    let octets = update.finish(512).unwrap();
+    let lines = "\
+;; ->>HEADER<<- opcode: UPDATE, status: NOERROR, id: 7
+;; flags:; QUERY: 1, ANSWER: 1, AUTHORITY: 1, ADDITIONAL: 0
+
+;; ZONE SECTION:
+;example.\tIN\tSOA
+
+;; PREREQUISITE SECTION:
+a.example.\t0\tNONE\tANY
+
+;; UPDATE SECTION:
+b.example.\t60\tIN\tA\t192.0.2.1
+";
+    let printed = Message::read(&octets).unwrap().to_string();
+    assert_eq!(printed.lines().map(str::trim_end).collect::<Vec<_>>(), lines.lines().collect::<Vec<_>>());
 }
 
 /// A request is whole or fails: half an UPDATE is another UPDATE (RFC 2136, section 3.4.2). So is a transfer.
@@ -270,8 +304,90 @@ fn the_last_record_is_last() {
         assert_eq!(read.additionals().last(), Some(tsig.as_record()));
         assert_eq!(read.header().truncation, read.answers().len() == 0);
     }
-    // The owner of TSIG may be compressed.
-    assert_eq!(message.finish(least - 3).unwrap_err().kind(), ErrorKind::MessageTooLong);
+    assert_eq!(message.finish(least - 1).unwrap_err().kind(), ErrorKind::MessageTooLong);
+}
+
+/// Its owner is not compressed, so it has as many octets as are held back, and the message is padded to a block.
+#[test]
+fn the_last_record_is_as_long_as_what_is_held() {
+    let tsig = record("key.a. 0 ANY TSIG \\# 19 00 00005F0F9043 012C 0002 491B DCC6 0000 0000");
+    let held = tsig.as_wire().len();
+    for block in [1, 32, 128, 468] {
+        let mut room = [0; 1024];
+        let mut writer = MessageWriter::new(&mut room, 1024, &Header::default()).unwrap();
+        writer.question(&name("key.a."), RecordType::A, Class::IN).unwrap();
+        writer.hold(held).padded_edns(&Edns::new(1232), block).unwrap();
+        writer.last(held, &tsig).unwrap();
+        assert_eq!(writer.finish().len() % usize::from(block), 0);
+    }
+}
+
+/// A reply has EDNS if its request has (RFC 6891, sections 6.1.1 and 7), and a code above 15 only with it.
+#[test]
+fn a_reply_has_edns_only_if_the_request_has() {
+    let plain = MessageBuilder::query(7, &name("a."), RecordType::A).finish(512).unwrap();
+    let by_edns = MessageBuilder::query(7, &name("a."), RecordType::A).edns(&Edns::new(512)).finish(512).unwrap();
+    let mut two = MessageBuilder::query(7, &name("a."), RecordType::A);
+    let two = two.question(&name("b."), RecordType::A, Class::IN).edns(&Edns::new(512)).finish(512).unwrap();
+    let [plain, by_edns, two] = [&plain, &by_edns, &two].map(|octets| Message::read(octets).unwrap());
+    for code in [15, 16, 23, 4095].map(ResponseCode::from) {
+        let written = MessageBuilder::reply_to(&plain).response_code(code).edns(&Edns::new(1232)).finish(512);
+        let mut header = Header::default();
+        header.response_code = code;
+        let mut room = [0; 512];
+        let begun = MessageWriter::reply_to(&mut room, 512, plain.octets(), &header).map(drop);
+        if u16::from(code) < 16 {
+            let written = written.unwrap();
+            assert_eq!(Message::read(&written).unwrap().edns(), Ok(None));
+            assert_eq!((Message::read(&written).unwrap().response_code(), begun), (Ok(code), Ok(())));
+        } else {
+            assert_eq!(
+                (written.unwrap_err().kind(), begun.unwrap_err().kind()),
+                (ErrorKind::BadItem, ErrorKind::BadItem)
+            );
+        }
+        let written = MessageBuilder::reply_to(&by_edns).response_code(code).finish(512).unwrap();
+        assert_eq!(Message::read(&written).unwrap().response_code(), Ok(code));
+    }
+    // A refusal is whole without a record, and keeps its code.
+    let address = record("a. 60 A 192.0.2.1");
+    let written =
+        MessageBuilder::reply_to(&two).response_code(ResponseCode::Refused).answers([&address]).finish(512).unwrap();
+    let read = Message::read(&written).unwrap();
+    assert_eq!((read.response_code(), read.questions().len(), read.answers().len()), (Ok(ResponseCode::FormErr), 0, 0));
+    assert_eq!(read.edns(), Ok(Some(Edns::new(1232))));
+    assert!(read.is_reply_to(&plain));
+}
+
+/// A transfer is split into messages that have all records in their order.
+#[test]
+fn a_transfer_is_split() {
+    let soa = record("a. 60 SOA a. a. 1 2 3 4 5");
+    let mut records = vec![soa.clone()];
+    records.extend((0..3000).map(|i| record(&format!("host-{i}.a. 60 A 192.0.2.1"))));
+    records.push(soa);
+    let query = |edns: bool| {
+        let mut query = MessageBuilder::query(7, &name("a."), RecordType::AXFR);
+        if edns {
+            query.edns(&Edns::new(1232));
+        }
+        query.finish(512).unwrap()
+    };
+    for (edns, size) in [(false, 65535), (true, 65535), (false, 512), (true, 512), (false, 100)] {
+        let query = query(edns);
+        let request = Message::read(&query).unwrap();
+        let messages = Transfer::new(&request, &records).max_size(size).collect::<Result<Vec<_>, _>>().unwrap();
+        let read: Vec<_> = messages.iter().map(|octets| Message::read(octets).unwrap()).collect();
+        assert!(read.iter().flat_map(Message::answers).eq(records.iter().map(RecordBuf::as_record)));
+        for (message, octets) in read.iter().zip(&messages) {
+            assert!(message.is_reply_to(&request) && message.header().authoritative && octets.len() <= size.into());
+            assert_eq!(message.edns().unwrap().is_some(), edns);
+        }
+    }
+    let query = query(false);
+    let mut short = Transfer::new(&Message::read(&query).unwrap(), &records).max_size(40);
+    assert_eq!(short.next().unwrap().unwrap_err().kind(), ErrorKind::MessageTooLong);
+    assert!(short.next().is_none());
 }
 
 #[test]
@@ -444,8 +560,13 @@ fn strings_of_any_octets() {
 /// RFC 9460, section 8; and `*` is no type (RFC 1035, section 3.2.3).
 #[test]
 fn keys_that_are_mandatory() {
-    assert_eq!(record("a. 1 SVCB 1 . mandatory=alpn alpn=h2").raw_data(), octets("0001 00 0000 0002 0001 0001 0003 026832"));
-    for line in ["a. 1 SVCB 1 . mandatory=alpn", "a. 1 SVCB 1 . key0=\"\\000\\001\"", "a. 1 NSEC b. *", "a. 1 * A 192.0.2.1"] {
+    assert_eq!(
+        record("a. 1 SVCB 1 . mandatory=alpn alpn=h2").raw_data(),
+        octets("0001 00 0000 0002 0001 0001 0003 026832")
+    );
+    for line in
+        ["a. 1 SVCB 1 . mandatory=alpn", "a. 1 SVCB 1 . key0=\"\\000\\001\"", "a. 1 NSEC b. *", "a. 1 * A 192.0.2.1"]
+    {
         assert!(line.parse::<RecordBuf>().is_err(), "{line}");
     }
     let wrong = record("a. 1 SVCB \\# 9 000100000000020001");

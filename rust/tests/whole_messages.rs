@@ -2,8 +2,8 @@
 //! 1035, section 4.1, and RFC 6891, section 6.1.
 use dns_names_wire::rdata::{CAA, DS, MX, NSEC3, RRSIG, SOA, SRV, SVCB, TLSA};
 use dns_names_wire::{
-    EdnsOption, EdnsOptionData, Error, ErrorKind, Field, Message, Name, NameRef, OpCode, Pairs, RData, Record, RecordType,
-    ResponseCode, Section, Texts, TypeSet, ZoneVersion,
+    EdnsOption, EdnsOptionData, Error, ErrorKind, Field, Message, Name, NameRef, OpCode, Pairs, RData, Record,
+    RecordType, ResponseCode, Section, Texts, TypeSet, ZoneVersion,
 };
 
 /// A response with thirteen records, each of another type, and an OPT record.
@@ -312,7 +312,9 @@ fn a_message_is_shown_with_edns_or_with_what_is_none() {
 #[test]
 fn options_say() {
     let name: Name = "a.".parse().unwrap();
-    let version = |labels, version_type, version| EdnsOptionData::ZoneVersion(Some(ZoneVersion { labels, version_type, version }));
+    let version = |labels, version_type, version| {
+        EdnsOptionData::ZoneVersion(Some(ZoneVersion { labels, version_type, version }))
+    };
     let subnet = |family, source, scope, address| EdnsOptionData::ClientSubnet { family, source, scope, address };
     let cookie = |server| EdnsOptionData::Cookie { client: *b"12345678", server };
     for (octets, data) in [

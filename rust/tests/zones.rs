@@ -385,14 +385,24 @@ fn what_is_written_is_read() {
 #[test]
 fn zones_are_checked() {
     let lines = [
-        "ns.a. 60 A 192.0.2.1", "ns.a. 61 A 192.0.2.2", "a. 60 SOA ns.a. h.a. 1 2 3 4 5", "a. 60 NS ns.a.", "b. 60 TXT x",
-        "A. 60 NS lost.a.", "c.a. 60 CNAME ns.a.", "m.a. 60 MX 5 c.a.", "c.a. 60 TXT x",
+        "ns.a. 60 A 192.0.2.1",
+        "ns.a. 61 A 192.0.2.2",
+        "a. 60 SOA ns.a. h.a. 1 2 3 4 5",
+        "a. 60 NS ns.a.",
+        "b. 60 TXT x",
+        "A. 60 NS lost.a.",
+        "c.a. 60 CNAME ns.a.",
+        "m.a. 60 MX 5 c.a.",
+        "c.a. 60 TXT x",
     ];
     let zone: Vec<RecordBuf> = lines.iter().map(|line| line.parse().unwrap()).collect();
     let found = check_zone(&"A.".parse::<Name>().unwrap(), &zone).unwrap();
     let numbers: Vec<_> = found.iter().map(|it| (it.check(), it.is_error(), it.record(), it.other())).collect();
     let wanted = [
-        (14, true, Some(5), None), (8, true, Some(6), Some(8)), (13, true, Some(7), Some(6)), (7, false, Some(1), Some(0)),
+        (14, true, Some(5), None),
+        (8, true, Some(6), Some(8)),
+        (13, true, Some(7), Some(6)),
+        (7, false, Some(1), Some(0)),
         (3, true, Some(4), None),
     ];
     assert_eq!(numbers, wanted);

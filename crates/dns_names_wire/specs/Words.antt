@@ -240,7 +240,7 @@ pub use Rattle.dnw_message_writer.specs.ReadItems.{OctetsAreRead, ReadMessagesHa
 pub use Rattle.dnw_message_writer.specs.SizeLaws.{QuestionsTakeNoMore, RecordsTakeNoMore, whole_pieces, whole_question, whole_record}
 pub use Rattle.dnw_message_writer.specs.CompressedNames.{Compresses, FindsHint, FindsNoHint, former_hint, kept_hints, later_hint, MayPointTo, pointer_octets, put_at, PutsForm, PutsPast, spelled}
 pub use Rattle.dnw_message_writer.specs.ContentLaws.{given_form, GivenRecordsAreAdded}
-pub use Rattle.dnw_message_writer.specs.Copying.{AreASet, AreOfOneSet, CopiesHeld, CopiesMessage, CopiesQuestions, CopiesSections, CopiesSets, copied_past, CopyFits, EndsBefore}
+pub use Rattle.dnw_message_writer.specs.Copying.{AreASet, AreOfOneKind, AreOfOneSet, CopiesHeld, CopiesMessage, CopiesQuestions, CopiesSections, CopiesSets, copied_past, CopyFits, EndsBefore}
 pub use Rattle.dnw_message_writer.specs.Copying.{FailsHeld, FailsQuestions, FailsSections, FailsSets, FailsToAddCopy, FailsToAddQuery, FailsToCopyMessage, FollowsFew, StopsAmong}
 pub use Rattle.dnw_message_writer.specs.Copying.{StandWhole, StopsInSet}
 pub use Rattle.dnw_message_writer.specs.Copying.{copied_form, covers_no_type, held_from, held_in, is_held, lacks_required, left_out_of, MayNotMiss, Misses, own_octets, query_form, sets_of, sig_code, signs_message, tsig_code}
@@ -252,7 +252,7 @@ pub use Rattle.dnw_message_writer.specs.Items.{fields_of_record, IsNear, IsOwner
 pub use Rattle.dnw_message_writer.specs.Items.{opt_code, question_form, question_past, record_form, record_past}
 pub use Rattle.dnw_message_writer.specs.Listed.{data_form, data_past, FailsListed, FailsToAddData, ListsData}
 pub use Rattle.dnw_message_writer.specs.NameLaws.{CompressedNamesTakeNoMore, KeepsSettled, WrittenNamesAreRead}
-pub use Rattle.dnw_message_writer.specs.Needs.{with_asked, with_all_asked, has_left_required, has_required, holding, holding_all, is_of_address, is_below, is_below_cut, is_glue, is_of_query, is_of_servers, is_request, is_required, is_required_in, is_transfer, is_uncut, purpose_by, purpose_of}
+pub use Rattle.dnw_message_writer.specs.Needs.{with_asked, with_all_asked, has_left_required, has_required, holding, holding_all, is_of_address, is_below, is_below_cut, is_glue, is_extra, is_of_query, is_request, is_required, is_required_in, is_server, is_transfer, is_uncut, purpose_by, purpose_of, signs_servers}
 pub use Rattle.dnw_message_writer.specs.Pieces.{ArePieces, GoesPast, IsPiece}
 pub use Rattle.dnw_message_writer.specs.Queries.{AddsSize, BeginsQuery, FailsToAddSize, FailsToQuery, query_flags}
 pub use Rattle.dnw_message_writer.specs.ReadItems.{GivenDataComeBack}

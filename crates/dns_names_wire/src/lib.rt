@@ -180,7 +180,7 @@ pub mod message_writer {
     pub use dnw_message_writer::hints::SLOTS;
     pub use dnw_message_writer::laws;
     pub use dnw_message_writer::listed::DataError;
-    pub use dnw_message_writer::needs::Purpose;
+    pub use dnw_message_writer::needs::{Purpose, is_server};
     pub use dnw_message_writer::pieces::Piece;
     pub use dnw_message_writer::reply::{Asked, ReplyError};
     pub use dnw_message_writer::section::{Section, WriteError};

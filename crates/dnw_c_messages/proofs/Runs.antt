@@ -92,7 +92,7 @@ module _ {octet : ℕ} {s : Section} {d : Decoder} {x : RecordValue} {after : De
   -- it is the first of its set
   pub run_begins : (v : WriterState) (n : List ℕ) → length n ≡ length m → AddsListed s x w m v n → Ran octet s x d w m after v n
   run_begins v n size adds =
-      ran_on octet s x d w m (ran_none octet s x d w m) x after v n size takes (refl, refl, refl) adds
+      ran_on octet s x d w m (ran_none octet s x d w m) x after v n size takes (inl refl, refl, refl) adds
 
   -- the first is not added
   pub first_fails : (failure : Failure) (v : WriterState) → v ≡ w → FailsToAddListed s x w m failure
@@ -108,7 +108,7 @@ module _ {octet : ℕ} {s : Section} {d : Decoder} {x : RecordValue} {after : De
         y = x;
         after = after;
         takes = takes;
-        same = (refl, refl, refl);
+        same = (inl refl, refl, refl);
         fails = fails;
       })
 
@@ -158,7 +158,7 @@ pub records_onward : {d : Decoder} {octet : ℕ} {s : Section} {w : WriterState}
     → AddsRecords d octet s w m after v n → IsOnward d after
 records_onward {d} {octet} g =
     elim (run_onward g.run) [
-      | inl same ↦ absurd (g.others g.x g.next (subst (λ e. TakesListed e octet g.x g.next) (sym same) g.first) (refl, refl, refl))
+      | inl same ↦ absurd (g.others g.x g.next (subst (λ e. TakesListed e octet g.x g.next) (sym same) g.first) (inl refl, refl, refl))
       | inr later ↦ later
     ]
 
@@ -177,7 +177,7 @@ pub record Gone (list : List ℕ) (needs : Purpose) (w : WriterState) (m : List 
   pub inside : p.items.index ≤ length list
 
 pub gone_none : (list : List ℕ) (needs : Purpose) (w : WriterState) (m : List ℕ) (d : Decoder) (left : LeftOut) → d ≡ record { bytes = list; index = 0 }
-    → left ≡ record { closed = 0; missing = false } → Gone list needs w m (progress d w m left)
+    → left ≡ record { closed = 0; missing = false; servers = false } → Gone list needs w m (progress d w m left)
 gone_none list needs w m d left is same =
     subst (λ e. Gone list needs w m (progress e w m left)) (sym is)
     (subst (λ l. Gone list needs w m (progress (at_offset list 0) w m l)) (sym same) (record { goes = here; same = refl; inside = omega arith }))

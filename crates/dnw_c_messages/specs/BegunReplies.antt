@@ -1,11 +1,11 @@
 -- How the function for C begins a reply, and why it does not.
-use Rattle.std.specs.Prelude.{◌≡◌, ◌==◌, ℕ, ◌%◌, if◌then◌else◌, List, Result, MatchResult}
+use Rattle.std.specs.Prelude.{◌≡◌, ℕ, List, Result, MatchResult}
 use Rattle.dnw_c_base.specs.declared.failure.Failure.{Failure}
 use Rattle.dnw_c_base.specs.declared.failure.Failure.TheVariants as why
-use Rattle.dnw_message_writer.specs.Replies.{BeginsReplyTo, FailsToReply}
+use Rattle.dnw_message_writer.specs.Replies.{BeginsReplyTo, FailsToReply, reply_code}
 use Rattle.dnw_message_writer.specs.declared.reply.Asked.{Asked}
 use Rattle.dnw_message_writer.specs.declared.reply.ReplyError.{ReplyError}
-use Rattle.dnw_message_writer.specs.declared.reply.ReplyError.TheVariants.{NoRequest, Write}
+use Rattle.dnw_message_writer.specs.declared.reply.ReplyError.TheVariants.{LongCode, NoRequest, Write}
 use Rattle.dnw_message_writer.specs.declared.state.WriterState.{WriterState}
 use Rattle.dnw_c_messages.specs.WriterCalls.{of_write}
 use Rattle.dnw_c_messages.specs.declared.edns.ReadEdns.{ReadEdns}
@@ -13,27 +13,24 @@ use Rattle.dnw_c_messages.specs.declared.edns.ReadEdns.{ReadEdns}
 -- which failure stands for why no reply is begun
 abbrev pub of_reply : ReplyError → Failure
 of_reply NoRequest = why.BadItem
+of_reply LongCode = why.BadItem
 of_reply (Write error) = of_write error
-
--- the response code of a reply: that of the flags, unless the request asks for another
-abbrev pub replied_code : ℕ → Asked → ℕ
-replied_code flags asked = if asked.rcode == 0 then flags % 16 else asked.rcode
 
 -- what C learns of what a reply needs
 abbrev pub read_asked : ℕ → Asked → ReadEdns
-read_asked flags asked = record {
+read_asked code asked = record {
   is_present = asked.has_edns;
   dnssec_ok = asked.dnssec_ok;
   version = 0;
   max_payload = asked.max_payload;
-  response_code = replied_code flags asked;
+  response_code = reply_code asked code;
   options_offset = 0;
   options_len = 0;
 }
 
 -- The reply begins, or it does not for such a reason, and the state is unchanged.
-abbrev pub RepliesOr : List ℕ → ℕ → ℕ → WriterState → List ℕ → WriterState → List ℕ → Result ReadEdns Failure → Type 0
-RepliesOr request flags max_size before old after new result =
+abbrev pub RepliesOr : List ℕ → ℕ → ℕ → ℕ → WriterState → List ℕ → WriterState → List ℕ → Result ReadEdns Failure → Type 0
+RepliesOr request flags code max_size before old after new result =
     MatchResult result
-    (λ found. (asked : Asked) × BeginsReplyTo request flags max_size asked old after new × (found ≡ read_asked flags asked))
-    (λ failure. (error : ReplyError) × FailsToReply request flags max_size old error × (failure ≡ of_reply error) × (after ≡ before))
+    (λ found. (asked : Asked) × BeginsReplyTo request flags code max_size asked old after new × (found ≡ read_asked code asked))
+    (λ failure. (error : ReplyError) × FailsToReply request flags code max_size old error × (failure ≡ of_reply error) × (after ≡ before))

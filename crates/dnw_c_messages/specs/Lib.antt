@@ -2,6 +2,7 @@ pub mod EdnsCalls
 pub mod OptionCalls
 pub mod OptionValues
 pub mod FieldCalls
+pub mod FillCalls
 pub mod ListCalls
 pub mod MessageCalls
 pub mod PackCalls

@@ -4,7 +4,7 @@
 -- and 4.1.3). The octet is the number of the sections before the item's own. What may be left out of a message is defined in
 -- `dnw_message_writer`, in `Needs.antt`; the caller may say otherwise of a record, by 32 more if the message has to have it, and by 128
 -- more if it may be left out. For one of the last items of the message, which are never left out, the octet is 64 more.
-use Rattle.std.specs.Prelude.{◌≡◌, ◌≢◌, ◌<◌, ◌≤◌, ◌⊎◌, ◌==◌, ◌||◌, nat_lt, ℕ, ◌+◌, ◌%◌, min, if◌then◌else◌, Bool, true, false, Some, List, length, take, slice_get, Result, MatchResult}
+use Rattle.std.specs.Prelude.{◌≡◌, ◌≢◌, ◌<◌, ◌≤◌, ◌⊎◌, ◌==◌, ◌&&◌, ◌||◌, nat_lt, ℕ, ◌+◌, ◌%◌, min, if◌then◌else◌, Bool, true, false, Some, List, length, take, slice_get, Result, MatchResult}
 use Rattle.std.specs.Int.{w16, from_be_bytes}
 use Rattle.dnw_base.specs.declared.error.DecodeError.{DecodeError}
 use Rattle.dnw_base.specs.Decoder.{Decoder, HasLeft, next_bytes, advanced}
@@ -18,10 +18,10 @@ use Rattle.dnw_message_read.specs.Headers.{header_size}
 use Rattle.dnw_message_writer.specs.Copying.{AreOfOneSet}
 use Rattle.dnw_message_writer.specs.Hints.{slot_of}
 use Rattle.dnw_message_writer.specs.Items.{question_form, question_past}
-use Rattle.dnw_message_writer.specs.Needs.{with_asked, holding, is_required, is_uncut, purpose_by}
+use Rattle.dnw_message_writer.specs.Needs.{with_asked, holding, is_required, is_server, is_uncut, purpose_by}
 use Rattle.dnw_message_writer.specs.Sections.{rank}
 use Rattle.dnw_message_writer.specs.Sets.{cut_off}
-use Rattle.dnw_message_writer.specs.States.{AddsItem, BeginsMessage, released}
+use Rattle.dnw_message_writer.specs.States.{AddsItem, BeginsMessage, for_last}
 use Rattle.dnw_message_writer.specs.declared.needs.Purpose.{Purpose}
 use Rattle.dnw_message_writer.specs.declared.section.Section.{Section}
 use Rattle.dnw_message_writer.specs.declared.section.Section.TheVariants as Sections
@@ -51,9 +51,10 @@ IsOctetOf octet s = (1 ≤ rank s) × ((octet ≡ rank s) ⊎ (octet ≡ rank s 
 abbrev pub section_of : ℕ → Section
 section_of octet = if octet % 4 == 1 then Sections.Answers else (if octet % 4 == 2 then Sections.Authorities else Sections.Additionals)
 
--- The message has to have the record: by the word of the caller, or else by what the message is for.
-abbrev pub has_to_be_there : Purpose → Section → ℕ → RecordValue → Bool
-has_to_be_there needs s octet x = if nat_lt octet 32 then is_required s needs x else nat_lt octet 128
+-- The message has to have the record: by the word of the caller, or else by what the message is for. Whether a server of the section
+-- is left out before it.
+abbrev pub has_to_be_there : Purpose → Section → ℕ → Bool → RecordValue → Bool
+has_to_be_there needs s octet out x = if nat_lt octet 32 then is_required s needs out x else nat_lt octet 128
 
 -- The octet is before no item.
 abbrev pub IsNoOctet : ℕ → Type 0
@@ -184,10 +185,10 @@ IsTakenBack w m v after new = (after ≡ record w { hints = v.hints }) × (take 
 
 -- One of the last items is added, with as many of the octets that are held back as it has with its names whole.
 abbrev pub AddsHeldItem : RecordValue → WriterState → List ℕ → WriterState → List ℕ → Type 0
-AddsHeldItem x before old after new = AddsListed Sections.Additionals x (released (whole_item x) before) old after new
+AddsHeldItem x before old after new = AddsListed Sections.Additionals x (for_last (whole_item x) before) old after new
 
 abbrev pub FailsToAddLastItem : RecordValue → WriterState → List ℕ → Failure → Type 0
-FailsToAddLastItem x before old failure = FailsToAddListed Sections.Additionals x (released (whole_item x) before) old failure
+FailsToAddLastItem x before old failure = FailsToAddListed Sections.Additionals x (for_last (whole_item x) before) old failure
 
 -- How far the writing of a list has come: the items that are left, what is written, and what is left out.
 pub record Progress : Type 0 where
@@ -200,9 +201,17 @@ pub record Progress : Type 0 where
 abbrev pub progress : Decoder → WriterState → List ℕ → LeftOut → Progress
 progress d w m left = record { items = d; state = w; message = m; left = left }
 
+-- A server of the section is left out so far.
+abbrev pub is_server_out : Section → LeftOut → Bool
+is_server_out s left = (left.closed == rank s) && left.servers
+
 -- what is left out, with a record of a section too
 abbrev pub left_with : Purpose → Section → ℕ → RecordValue → LeftOut → LeftOut
-left_with needs s octet x left = record { closed = rank s; missing = left.missing || has_to_be_there needs s octet x }
+left_with needs s octet x left = record {
+  closed = rank s;
+  missing = left.missing || has_to_be_there needs s octet (is_server_out s left) x;
+  servers = is_server_out s left || is_server x;
+}
 
 -- The next items of a list are written, or left out: a question, the records of a set, or one of the last items. Once a set has no
 -- room, its first record is left out, and so are the later records of its section. Nothing is left out of a message that is never cut.
@@ -239,7 +248,7 @@ pub data GoesFrom (needs : Purpose) (first : Progress) : Progress → Type 0 whe
   further : (p q : Progress) → GoesFrom needs first p → Goes needs p q → GoesFrom needs first q
 
 abbrev pub progress_at : List ℕ → WriterState → List ℕ → Progress
-progress_at list w m = progress (at_offset list 0) w m (record { closed = 0; missing = false })
+progress_at list w m = progress (at_offset list 0) w m (record { closed = 0; missing = false; servers = false })
 
 -- The message of a list begins: with its header, and the octets of the last items held back.
 abbrev pub Starts : List ℕ → ℕ → ℕ → ℕ → List ℕ → Purpose → Progress → Type 0

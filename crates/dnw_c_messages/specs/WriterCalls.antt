@@ -11,7 +11,7 @@ use Rattle.dnw_message_writer.specs.Data.{AreOfData}
 use Rattle.dnw_message_writer.specs.Hints.{slot_of}
 use Rattle.dnw_message_writer.specs.Items.{ItemPast, question_form, question_past, record_form, record_past}
 use Rattle.dnw_message_writer.specs.Sections.{rank}
-use Rattle.dnw_message_writer.specs.States.{AddsItem, AddsLastItem, BeginsMessage, FailsToAdd, released}
+use Rattle.dnw_message_writer.specs.States.{AddsItem, AddsLastItem, BeginsMessage, FailsToAdd, for_last}
 use Rattle.dnw_message_writer.specs.declared.pieces.Piece.{Piece}
 use Rattle.dnw_message_writer.specs.declared.section.Section.{Section}
 use Rattle.dnw_message_writer.specs.declared.section.Section.TheVariants as Sections
@@ -129,12 +129,13 @@ FailsToAddRecord number form record_type class ttl octets before old failure =
 
 -- ---- the last record
 
--- A record is added to the additional section, with so many of the octets that are held back, and none may follow.
+-- A record is added to the additional section, with its names whole and with so many of the octets that are held back, and none may
+-- follow.
 abbrev pub AddsLastRecord : ℕ → List ℕ → ℕ → ℕ → ℕ → List ℕ → WriterState → List ℕ → WriterState → List ℕ → Type 0
 AddsLastRecord held form record_type class ttl octets before old after new =
     (owner : List (List ℕ)) × (pieces : List Piece) × IsGiven form record_type class octets owner pieces
-    × AddsLastItem (record_form slot_of owner record_type class ttl pieces) (released held before) old after new
+    × AddsLastItem (record_form slot_of owner record_type class ttl pieces) (for_last held before) old after new
 
 abbrev pub FailsToAddLast : ℕ → List ℕ → ℕ → ℕ → ℕ → List ℕ → WriterState → List ℕ → Failure → Type 0
 FailsToAddLast held form record_type class ttl octets before old failure =
-    FailsToAddGiven Sections.Additionals form record_type class ttl octets (released held before) old failure
+    FailsToAddGiven Sections.Additionals form record_type class ttl octets (for_last held before) old failure

@@ -12,6 +12,8 @@
 pub mod edns;
 /// The fields of the data of records.
 pub mod fields;
+/// Records of a list, as many as a message has room for.
+pub mod filling;
 /// Lists of the items of a message.
 mod listed;
 /// Whole messages.

@@ -2,7 +2,7 @@
 ghost use Rattle.std.specs.Prelude.{◌≡◌, ◌↔◌, [], ◌∷◌, IsTrue, IfOk, IfErr, IfSome, IfNone};
 ghost use Rattle.dnw_c_base.specs.Results.{Returns};
 ghost use Rattle.dnw_message_read.specs.Messages.{QueryValue};
-ghost use Rattle.dnw_c_messages.specs.ReplyCalls.{HasSameQuestion, IsNoMessage, IsResponseTo, IsSameQuestion, IsUsualMessage, Replies, TellsReply};
+ghost use Rattle.dnw_c_messages.specs.ReplyCalls.{HasSameQuestion, IsNoMessage, IsResponseTo, IsSameQuestion, IsUsualMessage, LacksQuestion, Replies, TellsReply, is_refusal, is_update, may_lack_question};
 
 use crate::message::of_message;
 use dnw_c_base::failure::Failure;
@@ -10,10 +10,12 @@ use dnw_c_base::results::report;
 use dnw_message_read::header::{MessageType, Metadata};
 use dnw_message_read::items::Queries;
 use dnw_message_read::message::MessageRef;
+use dnw_message_read::op_code::OpCode;
 use dnw_message_read::query::QueryRef;
+use dnw_message_read::response_code::ResponseCode;
 use std::alloc::Global;
 
-/// Puts whether a message answers a request: QR, the id, the opcode and the only question say so. It does not allocate.
+/// Puts whether a message answers a request: QR, the id, the opcode and the question say so, if there is one. It does not allocate.
 #[unsafe(no_mangle)]
 pub extern "C" fn dnw_is_reply_to(
     alloc: Global,
@@ -46,12 +48,58 @@ fn read(octets: &[u8]) -> Result<MessageRef<'_>, Failure>
     }
 }
 
-/// Returns `true` if a message is a response to a request with the same only question.
+/// Returns `true` if a message is a response to a request, with the same only question, or without one.
 fn replies(alloc: Global, request: &MessageRef<'_>, response: &MessageRef<'_>) -> bool
     ensures { IsTrue result ↔ Replies request.now response.now }
 {
     is_response_to(&request.header().metadata, &response.header().metadata)
-        && has_same_question(alloc, request.queries(), response.queries())
+        && (has_same_question(alloc, request.queries(), response.queries())
+            || lacks_question(
+                &response.header().metadata,
+                request.queries(),
+                response.queries(),
+            ))
+}
+
+/// Returns `true` if a response has no question, since none was asked, or since it may lack it.
+fn lacks_question(response: &Metadata, asked: Queries<'_>, answered: Queries<'_>) -> bool
+    ensures { IsTrue result ↔ LacksQuestion response.now asked.entry answered.entry }
+{
+    is_none(answered) && (is_none(asked) || may_lack_question(response))
+}
+
+/// Returns `true` if there is no question.
+fn is_none(mut queries: Queries<'_>) -> bool
+    ensures { IsTrue result ↔ (queries.entry ≡ []) }
+{
+    queries.next().is_none()
+}
+
+/// Returns `true` for a response that may lack the question: to an UPDATE (RFC 2136, section 3.8), or a refusal.
+fn may_lack_question(response: &Metadata) -> bool
+    ensures { result ≡ may_lack_question response.now }
+{
+    is_update(response.op_code) || is_refusal(response.response_code)
+}
+
+/// Returns `true` for an UPDATE.
+fn is_update(op: OpCode) -> bool
+    ensures { result ≡ is_update op }
+{
+    matches!(op, OpCode::Update)
+}
+
+/// Returns `true` if a server does nothing for such a request, and may not have read it.
+fn is_refusal(code: ResponseCode) -> bool
+    ensures { result ≡ is_refusal code }
+{
+    matches!(
+        code,
+        ResponseCode::FormErr
+            | ResponseCode::ServFail
+            | ResponseCode::NotImp
+            | ResponseCode::Refused
+    )
 }
 
 /// Returns `true` for a request and a response to it by its header.

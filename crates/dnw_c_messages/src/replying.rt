@@ -1,13 +1,13 @@
 //! Replies, as they begin.
 ghost use Rattle.std.specs.Prelude.{◌≡◌};
 ghost use Rattle.dnw_c_base.specs.Results.{Returns};
-ghost use Rattle.dnw_c_messages.specs.BegunReplies.{RepliesOr, replied_code, of_reply, read_asked};
+ghost use Rattle.dnw_c_messages.specs.BegunReplies.{RepliesOr, of_reply, read_asked};
 
 use crate::edns::ReadEdns;
 use crate::writer::of_write;
 use dnw_c_base::failure::Failure;
 use dnw_c_base::results::report;
-use dnw_message_writer::reply::{Asked, ReplyError};
+use dnw_message_writer::reply::{Asked, ReplyError, reply_code};
 use dnw_message_writer::state::WriterState;
 
 /// Begins the reply to a request: puts its header and its question, and what the reply needs of EDNS.
@@ -17,12 +17,16 @@ pub extern "C" fn dnw_writer_reply(
     max_size: usize,
     request: &[u8],
     flags: u16,
+    response_code: u16,
     writer: &mut WriterState,
     edns: &mut ReadEdns,
 ) -> u32
-    ensures { Returns (RepliesOr request.now flags max_size writer.old message.old writer.new message.new) edns.old edns.new result }
+    ensures { Returns (RepliesOr request.now flags response_code max_size writer.old message.old writer.new message.new) edns.old edns.new result }
 {
-    report(reply(message, max_size, request, flags, writer), edns)
+    report(
+        reply(message, max_size, request, flags, response_code, writer),
+        edns,
+    )
 }
 
 /// Begins the reply to a request.
@@ -31,39 +35,30 @@ fn reply(
     max_size: usize,
     request: &[u8],
     flags: u16,
+    response_code: u16,
     writer: &mut WriterState,
 ) -> Result<ReadEdns, Failure>
-    ensures { RepliesOr request.now flags max_size writer.old message.old writer.new message.new result }
+    ensures { RepliesOr request.now flags response_code max_size writer.old message.old writer.new message.new result }
 {
-    match writer.reply_to(message, request, flags, max_size) {
-        Ok(asked) => Ok(read_asked(flags, asked)),
+    match writer.reply_to(message, request, flags, response_code, max_size) {
+        Ok(asked) => Ok(read_asked(response_code, asked)),
         Err(error) => Err(of_reply(&error)),
     }
 }
 
 /// Returns what C learns of what a reply needs.
-fn read_asked(flags: u16, asked: Asked) -> ReadEdns
-    ensures { result ≡ read_asked flags asked }
+fn read_asked(code: u16, asked: Asked) -> ReadEdns
+    ensures { result ≡ read_asked code asked }
 {
     ReadEdns {
         is_present: asked.has_edns,
         dnssec_ok: asked.dnssec_ok,
         version: 0,
         max_payload: asked.max_payload,
-        response_code: replied_code(flags, asked),
+        response_code: reply_code(asked, code),
         options_offset: 0,
         options_len: 0,
     }
-}
-
-/// Returns the response code of a reply: that of the flags, unless the request asks for another.
-fn replied_code(flags: u16, asked: Asked) -> u16
-    ensures { result ≡ replied_code flags asked }
-{
-    if asked.rcode == 0 {
-        return flags % 16;
-    }
-    asked.rcode
 }
 
 /// Returns the failure that stands for why no reply is begun.
@@ -71,7 +66,7 @@ fn of_reply(error: &ReplyError) -> Failure
     ensures { result ≡ of_reply error.now }
 {
     match error {
-        ReplyError::NoRequest => Failure::BadItem,
+        ReplyError::NoRequest | ReplyError::LongCode => Failure::BadItem,
         ReplyError::Write(error) => of_write(error),
     }
 }

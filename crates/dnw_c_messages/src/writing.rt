@@ -1,5 +1,5 @@
 //! Messages that are written from a list of items.
-ghost use Rattle.std.specs.Prelude.{◌≡◌, ◌≢◌, ◌<◌, ◌≤◌, ◌⊎◌, ℕ, List, length, take, if◌then◌else◌, IfOk, IfErr, OnOk, OnErr};
+ghost use Rattle.std.specs.Prelude.{◌≡◌, ◌≢◌, ◌<◌, ◌≤◌, ◌⊎◌, ℕ, List, length, take, if◌then◌else◌, Bool, IfOk, IfErr, OnOk, OnErr};
 ghost use Rattle.dnw_base.specs.Decoder.{Decoder};
 ghost use Rattle.dnw_record.specs.Records.{RecordValue};
 ghost use Rattle.dnw_message_writer.specs.CompressedNames.{put_at};
@@ -13,7 +13,7 @@ ghost use Rattle.dnw_message_writer.specs.declared.section.Section.TheVariants a
 ghost use Rattle.dnw_message_writer.specs.declared.state.WriterState.{WriterState};
 ghost use Rattle.dnw_c_base.specs.Results.{Returns};
 ghost use Rattle.dnw_c_base.specs.declared.failure.Failure.TheVariants.{BadItem};
-ghost use Rattle.dnw_c_messages.specs.ListCalls.{AddsHeldItem, AddsListed, AddsRecords, BeginsWithOctet, FailsToAddLastItem, FailsToAddListed, FailsToAddRecords, FailsToGo, Goes, GoesFrom, IsNoItem, IsOctetOf, LacksListed, Progress, TakesListed, TakesQuestion, WritesListOr, has_to_be_there, last_octet, left_with, progress, progress_at, question_octet};
+ghost use Rattle.dnw_c_messages.specs.ListCalls.{AddsHeldItem, AddsListed, AddsRecords, BeginsWithOctet, FailsToAddLastItem, FailsToAddListed, FailsToAddRecords, FailsToGo, Goes, GoesFrom, IsNoItem, IsOctetOf, LacksListed, Progress, TakesListed, TakesQuestion, WritesListOr, has_to_be_there, is_server_out, last_octet, left_with, progress, progress_at, question_octet};
 ghost use Rattle.dnw_c_messages.specs.WriterCalls.{FailsToAddItem, StaysAsItWas};
 
 use crate::listed::{
@@ -27,18 +27,19 @@ use dnw_base::limits::MAX_NAME;
 use dnw_c_base::failure::Failure;
 use dnw_c_base::results::report;
 use dnw_message_writer::hints::SLOTS;
-use dnw_message_writer::needs::Purpose;
+use dnw_message_writer::needs::{Purpose, is_server};
 use dnw_message_writer::section::Section;
 use dnw_message_writer::standing::FIRST_ITEM;
 use dnw_message_writer::state::WriterState;
 use dnw_record::record_ref::RecordRef;
 
-/// What is left out of a message: how many sections are before that of the last set that had no room, or 0 if each had; and if a
-/// record is left out that the message has to have.
+/// What is left out of a message: how many sections are before that of the last set that had no room, or 0 if each had; if a record
+/// is left out that the message has to have; and if a server of that section is.
 #[derive(Clone, Copy)]
 pub(crate) struct LeftOut {
     closed: u8,
     missing: bool,
+    servers: bool,
 }
 
 /// What is known of a message before a set.
@@ -110,8 +111,8 @@ fn write_items(
     message: &mut [u8],
     writer: &mut WriterState,
 ) -> Result<bool, Failure>
-    ensures ok { IfOk result (λ missing. (d : Decoder) × (closed : ℕ)
-        × GoesFrom purpose.now (progress_at items.now writer.old message.old) (progress d writer.new message.new (record { closed = closed; missing = missing }))
+    ensures ok { IfOk result (λ missing. (d : Decoder) × (closed : ℕ) × (servers : Bool)
+        × GoesFrom purpose.now (progress_at items.now writer.old message.old) (progress d writer.new message.new (record { closed = closed; missing = missing; servers = servers }))
         × (d.index ≡ length items.now)) }
     ensures err { IfErr result (λ failure. (p : Progress) × GoesFrom purpose.now (progress_at items.now writer.old message.old) p
         × FailsToGo purpose.now p failure) }
@@ -120,6 +121,7 @@ fn write_items(
     let mut left = LeftOut {
         closed: 0,
         missing: false,
+        servers: false,
     };
     'list: while !decoder.is_empty() {
         write_next(purpose, &mut decoder, message, writer, &mut left)?;
@@ -211,7 +213,7 @@ fn write_last(
         × FailsToAddLastItem x writer.old message.old failure)) }
 {
     let record = read_record(decoder)?;
-    writer.give_back(whole_item(&record));
+    writer.forget_names(whole_item(&record));
     match add_listed(Section::Additionals, &record, message, writer) {
         Ok(()) => Ok(()),
         Err(failure) => Err(failure),
@@ -291,7 +293,7 @@ fn add_records(
 
 /// Adds a record of a list to a section.
 #[inline(always)]
-fn add_listed(
+pub(crate) fn add_listed(
     section: Section,
     item: &RecordRef<'_>,
     message: &mut [u8],
@@ -357,18 +359,33 @@ fn left_with(
 ) -> LeftOut
     ensures { result ≡ left_with purpose.now section octet item.now left }
 {
+    let out = is_server_out(section, left);
     LeftOut {
         closed: section.rank(),
-        missing: left.missing || has_to_be_there(purpose, section, octet, item),
+        missing: left.missing || has_to_be_there(purpose, section, octet, out, item),
+        servers: out || is_server(item),
     }
 }
 
+/// Returns `true` if a server of a section is left out so far.
+fn is_server_out(section: Section, left: LeftOut) -> bool
+    ensures { result ≡ is_server_out section left }
+{
+    left.closed == section.rank() && left.servers
+}
+
 /// Returns `true` if the message has to have a record: by the word of the caller, or else by what the message is for.
-fn has_to_be_there(purpose: &Purpose<'_>, section: Section, octet: u8, item: &RecordRef<'_>) -> bool
-    ensures { result ≡ has_to_be_there purpose.now section octet item.now }
+fn has_to_be_there(
+    purpose: &Purpose<'_>,
+    section: Section,
+    octet: u8,
+    out: bool,
+    item: &RecordRef<'_>,
+) -> bool
+    ensures { result ≡ has_to_be_there purpose.now section octet out item.now }
 {
     if octet < REQUIRED {
-        return purpose.is_required(section, item);
+        return purpose.is_required(section, out, item);
     }
     octet < OPTIONAL
 }

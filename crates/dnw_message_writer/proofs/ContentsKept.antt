@@ -10,7 +10,7 @@ use Rattle.dnw_message_writer.specs.ContentLaws.{BegunMessagesAreEmpty, CutMessa
 use Rattle.dnw_message_writer.specs.Contents.{AddedItems, AddedRecord, HoldsItems, ReadsAsQuestion, ReadsAsRecord, StayInTurn, items_of_section, cut_flags, no_items, with_data, with_records}
 use Rattle.dnw_message_writer.specs.Sections.{offset_of_count}
 use Rattle.dnw_message_writer.specs.Sets.{cut_off}
-use Rattle.dnw_message_writer.specs.States.{count_in_header, empty_header, released}
+use Rattle.dnw_message_writer.specs.States.{count_in_header, empty_header, for_last}
 use Rattle.dnw_message_writer.specs.declared.section.Section.{Section}
 use Rattle.dnw_message_writer.specs.declared.section.Section.TheVariants.{Queries, Answers, Authorities, Additionals}
 use Rattle.dnw_message_writer.specs.declared.state.WriterState.{WriterState}
@@ -35,7 +35,7 @@ counts_none Authorities = refl
 counts_none Additionals = refl
 
 pub begun_messages_are_empty : BegunMessagesAreEmpty
-begun_messages_are_empty id flags max_size old new w id_fits flags_fit long (new_is, w_is) =
+begun_messages_are_empty id flags max_size old new w id_fits flags_fit long (room, enough, new_is, w_is) =
     let header = empty_header id flags in
     let same : (i : ℕ) → i < 12 → get_or new i 0 ≡ get_or header i 0 =
     λ i small.
@@ -184,8 +184,8 @@ sets_are_added slot id flags c s r (d ∷ set) w v old new h some fits are label
 
 pub last_records_are_added : LastRecordsAreAdded
 last_records_are_added slot id flags held c r w v old new h fits are labels (u, one, v_is) =
-    let k = state_kept id flags c w (released held w) old h refl (omega arith) in
-    let added = records_are_added slot id flags c Additionals r (released held w) u old new k (omega arith) fits are labels one in
+    let k = state_kept id flags c w (for_last held w) old h refl (omega arith) in
+    let added = records_are_added slot id flags c Additionals r (for_last held w) u old new k (omega arith) fits are labels one in
     let rank_is : u.rank ≤ 4 = omega (arith, ap (λ (x : WriterState). x.rank) one.6) in
     state_kept id flags (with_records Additionals (r ∷ []) c) u v new added (ap (λ (x : WriterState). x.end) v_is)
     (omega (arith, rank_is, ap (λ (x : WriterState). x.rank) v_is))

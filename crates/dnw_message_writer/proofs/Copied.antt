@@ -15,7 +15,7 @@ use Rattle.dnw_message_writer.specs.Items.{ItemForm}
 use Rattle.dnw_message_writer.specs.Needs.{has_left_required, is_uncut, purpose_of}
 use Rattle.dnw_message_writer.specs.Sections.{rank}
 use Rattle.dnw_message_writer.specs.Sets.{AddsSet, cut_off}
-use Rattle.dnw_message_writer.specs.States.{AddsItem, count_in_header}
+use Rattle.dnw_message_writer.specs.States.{AddsItem, count_in_header, for_last}
 use Rattle.dnw_message_writer.specs.declared.section.Section.{Section}
 use Rattle.dnw_message_writer.specs.declared.section.Section.TheVariants.{Queries, Answers, Authorities, Additionals}
 use Rattle.dnw_message_writer.specs.declared.state.WriterState.{WriterState}
@@ -194,11 +194,11 @@ copies_hold x max_size old new w long copies =
     let id = x.header.metadata.id in
     let flags = flags_of x.header.metadata in
     let asked = copies.questions in
-    let (begun_is, first_is) = asked.begins in
+    let (has_room, enough, begun_is, first_is) = asked.begins in
     let empty = begun_messages_are_empty id flags max_size old asked.begun asked.first asked.id_fits asked.flags_fit long asked.begins in
     let held : WriterState = record asked.first { reserved = held_from 0 x.additionals } in
     let start = unchanged_messages_hold id flags no_items asked.first held asked.begun asked.begun empty refl refl refl in
-    let start_within : Within max_size held = (ap (λ (x : WriterState). x.max_size) first_is, omega (arith, ap (λ (x : WriterState). x.end) first_is, asked.enough)) in
+    let start_within : Within max_size held = (ap (λ (x : WriterState). x.max_size) first_is, omega (arith, ap (λ (x : WriterState). x.end) first_is, enough)) in
     let (qs, queries, holds) = queries_hold id flags no_items x.queries held copies.asked asked.begun copies.asked_by start asked.adds in
     let within = set_within Queries query_form x.queries held copies.asked asked.begun copies.asked_by max_size start_within asked.adds in
     let s = copies.sections in
@@ -211,7 +211,7 @@ copies_hold x max_size old new w long copies =
     let within1 = sets_within Answers x.answers copies.asked s.answered copies.asked_by s.answered_by s.all_answers max_size within s.answers in
     let within2 = sets_within Authorities x.authorities s.answered s.led s.answered_by s.led_by s.all_authorities max_size within1 s.authorities in
     let within3 = sets_within Additionals (sets_of Additionals x.additionals) s.led copies.filled s.led_by copies.filled_by s.all_additionals max_size within2 s.additionals in
-    let free : WriterState = record copies.filled { reserved = 0 } in
+    let free : WriterState = for_last copies.filled.reserved copies.filled in
     let freed = unchanged_messages_hold id flags c4 copies.filled free copies.filled_by copies.filled_by filled refl refl refl in
     let (ls, last, all) = set_holds id flags Additionals c4 (held_in x.additionals) free w copies.filled_by copies.whole freed (omega arith) copies.held in
     let (most, few) = set_within Additionals copied_form (held_in x.additionals) free w copies.filled_by copies.whole max_size within3 copies.held in

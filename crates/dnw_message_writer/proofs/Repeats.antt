@@ -395,7 +395,7 @@ module _ (s : Section) (form : ItemForm) (w v : WriterState) (old new : List ℕ
 
 pub hints_begin : HintsBegin
 hints_begin id flags max_size old new w begun i after =
-    let hints : w.hints ≡ replicate 512 0 = ap (λ (x : WriterState). x.hints) begun.1 in
+    let hints : w.hints ≡ replicate 512 0 = ap (λ (x : WriterState). x.hints) begun.3 in
     let none : get_or w.hints i 0 ≡ 0 =
     ap (λ x. get_or x i 0) hints ∙ elim (le_or_lt 512 i) [ inl past ↦ get_or_past (replicate 512 0) i 0 (omega (arith, past)) | inr less ↦ get_or-replicate 512 i 0 0 less ] in
     absurd (omega (arith, none, after))

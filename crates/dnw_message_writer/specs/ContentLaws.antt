@@ -9,7 +9,7 @@ use Rattle.dnw_message_writer.specs.Inside.Fitting.{HasLabels}
 use Rattle.dnw_message_writer.specs.Items.{IsRecord, ItemForm, fields_of_record, opt_code, question_form, record_form}
 use Rattle.dnw_message_writer.specs.Sections.{rank}
 use Rattle.dnw_message_writer.specs.Sets.{AddsSet, CutsOff}
-use Rattle.dnw_message_writer.specs.States.{AddsItem, AddsLastItem, BeginsMessage, released}
+use Rattle.dnw_message_writer.specs.States.{AddsItem, AddsLastItem, BeginsMessage, for_last}
 use Rattle.dnw_message_writer.specs.declared.pieces.Piece.{Piece}
 use Rattle.dnw_message_writer.specs.declared.section.Section.{Section}
 use Rattle.dnw_message_writer.specs.declared.section.Section.TheVariants.{Queries, Additionals}
@@ -64,7 +64,7 @@ SetsAreAdded = (slot : List (List ℕ) → ℕ) (id flags : ℕ) (c : AddedItems
 abbrev pub LastRecordsAreAdded : Type 0
 LastRecordsAreAdded = (slot : List (List ℕ) → ℕ) (id flags held : ℕ) (c : AddedItems) (r : AddedRecord) (w v : WriterState) (old new : List ℕ)
     → HoldsItems id flags c w old → RecordFits r → AreLabels r.owner → AllByRecursion HasLabels r.pieces
-    → AddsLastItem (record_form slot r.owner r.record_type r.class r.ttl r.pieces) (released held w) old v new
+    → AddsLastItem (record_form slot r.owner r.record_type r.class r.ttl r.pieces) (for_last held w) old v new
     → HoldsItems id flags (with_records Additionals (r ∷ []) c) v new
 
 -- A message that says that something is missing has the same items.

@@ -1,5 +1,5 @@
 -- Records and messages that were read, written again (RFC 2181, sections 5 and 9; RFC 6891, section 6.1.1).
-use Rattle.std.specs.Prelude.{◌≡◌, ◌≢◌, ℕ, None, Some, ◌+◌, ◌<◌, ◌≤◌, ◌^◌, ◌==◌, ◌&&◌, ◌||◌, ◌⊎◌, nat_le, not, min, if◌then◌else◌, Bool, true, false, List, [], ◌∷◌, ◌++◌, drop, filter, length, take}
+use Rattle.std.specs.Prelude.{◌≡◌, ◌≢◌, ℕ, None, Some, ◌+◌, ◌<◌, ◌^◌, ◌==◌, ◌&&◌, ◌||◌, ◌⊎◌, nat_le, not, min, if◌then◌else◌, Bool, true, false, List, [], ◌∷◌, ◌++◌, drop, filter, length, take}
 use Rattle.std.specs.List.{AllByRecursion}
 use Rattle.dnw_base.specs.DnsClasses.{class_code}
 use Rattle.dnw_base.specs.Limits.{max_pointers}
@@ -18,11 +18,11 @@ use Rattle.dnw_message_read.specs.declared.edns.EdnsError.{EdnsError}
 use Rattle.dnw_message_writer.specs.Hints.{slot_of}
 use Rattle.dnw_message_writer.specs.Items.{IsQuestion, ItemForm, ItemPast, opt_code, question_past}
 use Rattle.dnw_message_writer.specs.Listed.{data_form, data_past}
-use Rattle.dnw_message_writer.specs.Needs.{has_left_required, is_uncut, purpose_of}
+use Rattle.dnw_message_writer.specs.Needs.{has_left_required, is_server, is_uncut, purpose_of, signs_servers}
 use Rattle.dnw_message_writer.specs.Replies.{field_at}
 use Rattle.dnw_message_writer.specs.Sets.{AddsSet, cut_off}
 use Rattle.dnw_message_writer.specs.Standing.{first_item}
-use Rattle.dnw_message_writer.specs.States.{BeginsMessage, FailsToAdd, count_in_header}
+use Rattle.dnw_message_writer.specs.States.{BeginsMessage, FailsToAdd, count_in_header, for_last}
 use Rattle.dnw_message_writer.specs.declared.copying.CopyError.{CopyError}
 use Rattle.dnw_message_writer.specs.declared.copying.CopyError.TheVariants as errors
 use Rattle.dnw_message_writer.specs.declared.section.Section.{Section}
@@ -80,10 +80,14 @@ query_form q = record {
 
 -- ---- sets
 
--- The records are of one set: they have the same type and class, and the same owner but for case (RFC 2181, section 5).
+-- The records have the same type, or the first is a server and the other signs servers: these are written together or left out together,
+-- since servers that are there have to be signed (RFC 4035, section 3.1.1).
+abbrev pub AreOfOneKind : RecordValue → RecordValue → Type 0
+AreOfOneKind x y = (type_code x.record_type ≡ type_code y.record_type) ⊎ ((is_server x ≡ true) × (signs_servers y ≡ true))
+
+-- They are of one set: they have the same class, and the same owner but for case, too (RFC 2181, section 5).
 abbrev pub AreOfOneSet : RecordValue → RecordValue → Type 0
-AreOfOneSet x y =
-    (type_code x.record_type ≡ type_code y.record_type) × (class_code x.class ≡ class_code y.class) × (lower x.owner ≡ lower y.owner)
+AreOfOneSet x y = AreOfOneKind x y × (class_code x.class ≡ class_code y.class) × (lower x.owner ≡ lower y.owner)
 
 -- There are records, all of one set.
 abbrev pub AreASet : List RecordValue → Type 0
@@ -188,7 +192,6 @@ MayNotMiss x all e = (all ≡ false) × (is_uncut (purpose_of x) ≡ true) × (e
 pub record CopiesQuestions (x : MessageValue) (max_size : ℕ) (old : List ℕ) (w : WriterState) (m : List ℕ) : Type 0 where
   pub first : WriterState
   pub begun : List ℕ
-  pub enough : first_item ≤ max_size
   pub id_fits : x.header.metadata.id < 2 ^ 16
   pub flags_fit : flags_of x.header.metadata < 2 ^ 16
   pub begins : BeginsMessage x.header.metadata.id (flags_of x.header.metadata) max_size old first begun
@@ -208,9 +211,9 @@ pub record CopiesSections (x : MessageValue) (w : WriterState) (m : List ℕ) (v
   pub additionals : CopiesSets Additionals (sets_of Additionals x.additionals) led led_by v n all_additionals
   pub missing_is : Misses x n (all_answers && (all_authorities && all_additionals)) missing
 
--- The records that come last are added, in the octets that were held back.
+-- The records that come last are added, in the octets that were held back: no pointer stands for a name of the message before them.
 abbrev pub CopiesHeld : MessageValue → WriterState → List ℕ → WriterState → List ℕ → Type 0
-CopiesHeld x w m v n = AddsSet Additionals copied_form (held_in x.additionals) (record w { reserved = 0 }) m v n
+CopiesHeld x w m v n = AddsSet Additionals copied_form (held_in x.additionals) (for_last w.reserved w) m v n
 
 -- The names in the data of its records follow so many pointers at most.
 abbrev pub FollowsFew : MessageValue → Type 0
@@ -259,7 +262,7 @@ pub data FailsSections (x : MessageValue) (w : WriterState) (m : List ℕ) (e : 
 -- A record that comes last is not added.
 abbrev pub FailsHeld : MessageValue → WriterState → List ℕ → CopyError → Type 0
 FailsHeld x w m e =
-    StopsAmong Additionals copied_form (FailsToAddCopy Additionals) (held_in x.additionals) (record w { reserved = 0 }) m e
+    StopsAmong Additionals copied_form (FailsToAddCopy Additionals) (held_in x.additionals) (for_last w.reserved w) m e
 
 -- What it says by EDNS breaks a rule, or names in its data follow more pointers than are allowed, or it has no room for its header, its
 -- questions or the records that come last, or for any record if it is never cut, or the data of a record are none of its class and

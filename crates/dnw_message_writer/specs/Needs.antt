@@ -111,9 +111,17 @@ is_of_query flags = flags / 2 ^ 11 % 16 == 0
 abbrev pub covers_servers : List ℕ → Bool
 covers_servers octets = nat_le 2 (length octets) && (field_at octets 0 == ns_code)
 
--- the servers of a zone, and what signs them
-abbrev pub is_of_servers : RecordValue → Bool
-is_of_servers x = (type_code x.record_type == ns_code) || ((type_code x.record_type == rrsig_code) && covers_servers (data_octets x))
+-- a server of a zone
+abbrev pub is_server : RecordValue → Bool
+is_server x = type_code x.record_type == ns_code
+
+-- what signs the servers of a zone
+abbrev pub signs_servers : RecordValue → Bool
+signs_servers x = (type_code x.record_type == rrsig_code) && covers_servers (data_octets x)
+
+-- A server may be left out beside data. What signs servers may too, once one of them is left out before it.
+abbrev pub is_extra : Bool → RecordValue → Bool
+is_extra out x = is_server x || (out && signs_servers x)
 
 -- an address
 abbrev pub is_of_address : RecordValue → Bool
@@ -135,25 +143,26 @@ is_glue cut x = is_of_address x && is_below_cut cut x
 -- - all answers (RFC 2181, section 9);
 -- - all authorities: SOA (RFC 2308, sections 2 and 3), NSEC and NSEC3 (RFC 4035, section 3.1.3; RFC 5155, section 7.2), DS (RFC 4035,
 --   section 3.1.4), the RRSIGs of these (RFC 4035, section 3.1.1), and the NS of a cut (RFC 1034, section 4.3.2); but beside an answer
---   that ends in data NS is only extra information, and so are its RRSIGs;
+--   that ends in data NS is only extra information, and its RRSIGs go with it: those of NS that is there are required, too (RFC 4035,
+--   section 3.1.1);
 -- - of the additional records the addresses of servers at a cut or below it, if the message refers to the cut (RFC 9471, section 3). An
 --   RRSIG alone is never required there (RFC 4035, section 3.1.1).
-abbrev pub is_required_in : Section → Purpose → RecordValue → Bool
-is_required_in Queries p x = true
-is_required_in Answers p x = true
-is_required_in Authorities p x = not (p.has_data && is_of_servers x)
-is_required_in Additionals p x = not p.has_data && is_glue p.cut x
+abbrev pub is_required_in : Section → Purpose → Bool → RecordValue → Bool
+is_required_in Queries p out x = true
+is_required_in Answers p out x = true
+is_required_in Authorities p out x = not (p.has_data && is_extra out x)
+is_required_in Additionals p out x = not p.has_data && is_glue p.cut x
 
--- The message has to have the record: TC is set if it is left out.
-abbrev pub is_required : Section → Purpose → RecordValue → Bool
-is_required s p x = not (is_of_query p.flags) || is_required_in s p x
+-- The message has to have the record: TC is set if it is left out. Whether a server is left out before it.
+abbrev pub is_required : Section → Purpose → Bool → RecordValue → Bool
+is_required s p out x = not (is_of_query p.flags) || is_required_in s p out x
 
 -- One of these has to be there.
-abbrev pub has_required : Section → Purpose → List RecordValue → Bool
-has_required s p [] = false
-has_required s p (x ∷ xs) = is_required s p x || has_required s p xs
+abbrev pub has_required : Section → Purpose → Bool → List RecordValue → Bool
+has_required s p out [] = false
+has_required s p out (x ∷ xs) = is_required s p out x || has_required s p (out || is_server x) xs
 
 -- One of those that are left out of each section has to be there.
 abbrev pub has_left_required : Purpose → List RecordValue → List RecordValue → List RecordValue → Bool
 has_left_required p answers authorities additionals =
-    has_required Answers p answers || (has_required Authorities p authorities || has_required Additionals p additionals)
+    has_required Answers p false answers || (has_required Authorities p false authorities || has_required Additionals p false additionals)

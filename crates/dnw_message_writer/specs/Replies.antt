@@ -1,5 +1,5 @@
 -- How a reply begins (RFC 1035, section 4.1.1; RFC 6891, sections 6.1.3 and 7; RFC 9619).
-use Rattle.std.specs.Prelude.{◌≡◌, ℕ, ◌+◌, ◌%◌, ◌<◌, ◌≤◌, ◌==◌, ◌⊎◌, nat_lt, if◌then◌else◌, true, false, min, bit_and, bit_or, Option, Some, None, List, [], ◌∷◌, length, slice_index}
+use Rattle.std.specs.Prelude.{◌≡◌, ℕ, ◌+◌, ◌%◌, ◌<◌, ◌≤◌, ◌==◌, ◌||◌, ◌⊎◌, nat_lt, if◌then◌else◌, Bool, true, false, min, bit_and, bit_or, Option, Some, None, List, [], ◌∷◌, length, slice_index}
 use Rattle.std.specs.Int.{w16, from_be_bytes}
 use Rattle.dnw_base.specs.DnsClasses.{class_code}
 use Rattle.dnw_base.specs.Limits.{max_pointers, min_payload}
@@ -10,12 +10,13 @@ use Rattle.dnw_message_read.specs.declared.edns.EdnsError.{EdnsError}
 use Rattle.dnw_message_read.specs.declared.error.MessageError.{MessageError}
 use Rattle.dnw_message_writer.specs.Hints.{slot_of}
 use Rattle.dnw_message_writer.specs.Items.{question_form, question_past}
+use Rattle.dnw_message_writer.specs.Sections.{rank}
 use Rattle.dnw_message_writer.specs.Standing.{first_item}
 use Rattle.dnw_message_writer.specs.States.{AddsItem, BeginsMessage, FailsToAdd}
 use Rattle.dnw_message_writer.specs.declared.reply.Asked.{Asked}
 use Rattle.dnw_message_writer.specs.declared.reply.ReplyError.{ReplyError}
-use Rattle.dnw_message_writer.specs.declared.reply.ReplyError.TheVariants.{NoRequest, Write}
-use Rattle.dnw_message_writer.specs.declared.section.Section.TheVariants.{Queries}
+use Rattle.dnw_message_writer.specs.declared.reply.ReplyError.TheVariants.{LongCode, NoRequest, Write}
+use Rattle.dnw_message_writer.specs.declared.section.Section.TheVariants.{Additionals, Queries}
 use Rattle.dnw_message_writer.specs.declared.section.WriteError.{WriteError}
 use Rattle.dnw_message_writer.specs.declared.section.WriteError.TheVariants.{NoRoom}
 use Rattle.dnw_message_writer.specs.declared.state.WriterState.{WriterState}
@@ -51,13 +52,18 @@ IsOnlyQuery [] None = Unit {0}
 IsOnlyQuery (x ∷ []) (Some q) = q ≡ x
 IsOnlyQuery xs q = ⊥
 
+-- a request to be answered with FORMERR, if it is not with another code
+abbrev pub malformed : Asked → Asked
+malformed asked = record asked { rcode = if asked.rcode == 0 then 1 else asked.rcode }
+
 -- What a request asks, and the question that its reply repeats. One that cannot be read, or has more than one question, is answered
--- with FORMERR and without a question.
+-- with FORMERR and without a question; if it can be read, its EDNS counts all the same (RFC 6891, section 6.1.1).
 abbrev pub AsksOf : List ℕ → Asked → Option QueryValue → Type 0
 AsksOf request asked query =
     ((e : MessageError) × FailsMessage request max_pointers e × (asked ≡ nothing_asked 1) × (query ≡ None))
     ⊎ ((m : MessageValue) × (k : ℕ) × MessageAt request m k
-    × (((2 ≤ length m.queries) × (asked ≡ nothing_asked 1) × (query ≡ None)) ⊎ (IsOnlyQuery m.queries query × AsksByEdns m asked)))
+    × (((2 ≤ length m.queries) × (by_edns : Asked) × AsksByEdns m by_edns × (asked ≡ malformed by_edns) × (query ≡ None))
+    ⊎ (IsOnlyQuery m.queries query × AsksByEdns m asked)))
 
 -- ---- replies
 
@@ -65,9 +71,17 @@ AsksOf request asked query =
 abbrev pub reply_flags : ℕ → ℕ → ℕ → ℕ
 reply_flags requested own code = bit_or (bit_or (bit_or 32768 (bit_and requested 30992)) (bit_and own 1184)) code
 
--- the low four bits of the response code
+-- the response code: that which the request has to get, or else the server's
 abbrev pub reply_code : Asked → ℕ → ℕ
-reply_code asked own = if asked.rcode == 0 then own % 16 else asked.rcode % 16
+reply_code asked own = if asked.rcode == 0 then own else asked.rcode
+
+-- the greatest code that a reply can have: of twelve bits with EDNS, and else of four
+abbrev pub most_code : Asked → ℕ
+most_code asked = if asked.has_edns then 4095 else 15
+
+-- A reply with this code is whole without a record: FORMERR, NOTIMP and BADVERS (RFC 1035, section 4.1.1; RFC 6891, section 6.1.3).
+abbrev pub is_bare : ℕ → Bool
+is_bare code = (code == 1) || (code == 4) || (code == 16)
 
 -- A question is added, if there is one.
 abbrev pub AddsQuestion : Option QueryValue → WriterState → List ℕ → WriterState → List ℕ → Type 0
@@ -92,16 +106,24 @@ FailsToBeginAsked query id flags max_size old e =
 abbrev pub held_for : Asked → WriterState → WriterState
 held_for asked w = if asked.has_edns then record w { reserved = min (w.reserved + 11) 18446744073709551615 } else w
 
--- The reply to a request begins.
-abbrev pub BeginsReplyTo : List ℕ → ℕ → ℕ → Asked → List ℕ → WriterState → List ℕ → Type 0
-BeginsReplyTo request own max_size asked old after new =
-    IsRequest request × (query : Option QueryValue) × AsksOf request asked query × (w : WriterState)
-    × BeginsAsked query (field_at request 0) (reply_flags (field_at request 2) own (reply_code asked own)) max_size old w new
-    × (after ≡ held_for asked w)
+-- If a reply with this code is whole without a record, only additional records may follow: OPT, and a signature of the message.
+abbrev pub closed_for : ℕ → WriterState → WriterState
+closed_for code w = if is_bare code then record w { rank = rank Additionals } else w
 
--- It does not: the octets are no request, or there is no room.
-abbrev pub FailsToReply : List ℕ → ℕ → ℕ → List ℕ → ReplyError → Type 0
-FailsToReply request own max_size old NoRequest = IsRequest request → ⊥
-FailsToReply request own max_size old (Write e) =
+-- The reply to a request begins, with this code of the server's, if the request has to get no other.
+abbrev pub BeginsReplyTo : List ℕ → ℕ → ℕ → ℕ → Asked → List ℕ → WriterState → List ℕ → Type 0
+BeginsReplyTo request own code max_size asked old after new =
+    IsRequest request × (query : Option QueryValue) × AsksOf request asked query × (reply_code asked code ≤ most_code asked)
+    × (w : WriterState)
+    × BeginsAsked query (field_at request 0) (reply_flags (field_at request 2) own (reply_code asked code % 16)) max_size old w new
+    × (after ≡ closed_for (reply_code asked code) (held_for asked w))
+
+-- It does not: the octets are no request, or the reply has no place for the code, or there is no room.
+abbrev pub FailsToReply : List ℕ → ℕ → ℕ → ℕ → List ℕ → ReplyError → Type 0
+FailsToReply request own code max_size old NoRequest = IsRequest request → ⊥
+FailsToReply request own code max_size old LongCode =
     IsRequest request × (query : Option QueryValue) × (asked : Asked) × AsksOf request asked query
-    × FailsToBeginAsked query (field_at request 0) (reply_flags (field_at request 2) own (reply_code asked own)) max_size old e
+    × (most_code asked < reply_code asked code)
+FailsToReply request own code max_size old (Write e) =
+    IsRequest request × (query : Option QueryValue) × (asked : Asked) × AsksOf request asked query
+    × FailsToBeginAsked query (field_at request 0) (reply_flags (field_at request 2) own (reply_code asked code % 16)) max_size old e

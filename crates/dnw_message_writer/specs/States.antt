@@ -16,10 +16,11 @@ use Rattle.dnw_message_writer.specs.declared.state.WriterState.{WriterState}
 abbrev pub empty_header : ℕ → ℕ → List ℕ
 empty_header id flags = to_be_bytes w16 id ++ (to_be_bytes w16 flags ++ replicate 8 0)
 
--- A message begins: its header is put at the start, and nothing is known of names.
+-- A message begins: its header is put at the start, where it has room, and nothing is known of names.
 abbrev pub BeginsMessage : ℕ → ℕ → ℕ → List ℕ → WriterState → List ℕ → Type 0
 BeginsMessage id flags max_size old w new =
-    (new ≡ put_at old 0 (empty_header id flags))
+    (first_item ≤ length old) × (first_item ≤ max_size)
+    × (new ≡ put_at old 0 (empty_header id flags))
     × (w ≡ record { end = first_item; max_size = max_size; reserved = 0; owner = 0; rank = 0; has_opt = 0; hints = replicate 512 0 })
 
 -- how many items the header says that a section has
@@ -89,6 +90,11 @@ FailsToAdd s past w m e =
 -- the state that holds back so many octets fewer
 abbrev pub released : ℕ → WriterState → WriterState
 released held w = record w { reserved = w.reserved - held }
+
+-- The state for a last item: it holds back so many octets fewer, and knows no name of the message. So no pointer stands for a name of
+-- the item, which has as many octets as were held back for it.
+abbrev pub for_last : ℕ → WriterState → WriterState
+for_last held w = record w { reserved = w.reserved - held; owner = 0; hints = replicate 512 0 }
 
 -- An item is added to the additional section, and no other may follow.
 abbrev pub AddsLastItem : ItemForm → WriterState → List ℕ → WriterState → List ℕ → Type 0

@@ -3,7 +3,7 @@ ghost use Rattle.std.specs.Prelude.{◌≡◌, ◌∷◌, ◌<◌, ◌≤◌, �
 ghost use Rattle.dnw_base.specs.Names.{AreLabels, lower};
 ghost use Rattle.dnw_record.specs.DataCopies.{Copies, data_start, record_kinds};
 ghost use Rattle.dnw_message_read.specs.Headers.{flags_of};
-ghost use Rattle.dnw_message_writer.specs.Copying.{AreOfOneSet, CopiesHeld, CopiesMessage, CopiesQuestions, CopiesSections, CopiesSets, FailsHeld, FailsQuestions, FailsSections, FailsSets, FailsToAddCopy, FailsToAddQuery, FailsToCopyMessage, StandWhole, StopsAmong, StopsInSet, copied_form, covers_no_type, held_from, copied_past, is_held, own_octets, query_form, sets_of, signs_message};
+ghost use Rattle.dnw_message_writer.specs.Copying.{AreOfOneKind, AreOfOneSet, CopiesHeld, CopiesMessage, CopiesQuestions, CopiesSections, CopiesSets, FailsHeld, FailsQuestions, FailsSections, FailsSets, FailsToAddCopy, FailsToAddQuery, FailsToCopyMessage, StandWhole, StopsAmong, StopsInSet, copied_form, covers_no_type, held_from, copied_past, is_held, own_octets, query_form, sets_of, signs_message};
 ghost use Rattle.dnw_message_writer.specs.Inside.CopiedSets.{AddsFirstSet, first_of};
 ghost use Rattle.dnw_message_writer.specs.Inside.Taken.{IsCopiedIn};
 ghost use Rattle.dnw_message_writer.specs.Inside.Turns.{KeptCount};
@@ -17,6 +17,7 @@ use crate::data::pieces_of;
 use crate::hints::SLOTS;
 use crate::missing::{are_all, what_is_missing};
 use crate::names::put_at;
+use crate::needs::{is_server, signs_servers};
 use crate::pieces::Piece;
 use crate::reply::field_at;
 use crate::section::{Section, WriteError};
@@ -513,7 +514,7 @@ impl WriterState {
         ensures ok { OnOk result (CopiesHeld source.now self.old message.old self.new message.new) }
         ensures err { IfErr result (FailsHeld source.now self.old message.old) }
     {
-        self.reserved = 0;
+        self.forget_names(self.reserved);
         let mut records = source.additionals();
         'records: while let Some(record) = records.next() {
             if is_held(&record) {
@@ -545,14 +546,23 @@ pub(crate) fn next_of<'m>(section: Section, records: &mut Records<'m>) -> Option
     }
 }
 
-/// Returns `true` if a record is of the set of the first one.
+/// Returns `true` if a record is of the set of the first one. The signatures of servers are of their set.
 #[inline(always)]
 pub fn is_of_set(first: &RecordRef<'_>, item: &RecordRef<'_>) -> bool
     ensures { IsTrue result ↔ AreOfOneSet first.now item.now }
 {
-    u16::from(first.record_type()) == u16::from(item.record_type())
+    is_of_kind(first, item)
         && u16::from(first.class()) == u16::from(item.class())
         && are_alike(first.owner(), item.owner())
+}
+
+/// Returns `true` if a record has the type of the first one, or signs servers, of which the first one is.
+#[inline(always)]
+fn is_of_kind(first: &RecordRef<'_>, item: &RecordRef<'_>) -> bool
+    ensures { IsTrue result ↔ AreOfOneKind first.now item.now }
+{
+    u16::from(first.record_type()) == u16::from(item.record_type())
+        || (is_server(first) && signs_servers(item))
 }
 
 /// Returns `true` if two names are the same, ignoring case. Mostly their wire forms are.

@@ -1,10 +1,10 @@
 //! What is left out of a message that is written again, and whether it has to have it.
-ghost use Rattle.std.specs.Prelude.{◌≡◌, ◌≤◌, ◌&&◌, drop, length, IfErr, IfOk};
+ghost use Rattle.std.specs.Prelude.{◌≡◌, ◌≤◌, ◌&&◌, drop, false, length, IfErr, IfOk};
 ghost use Rattle.dnw_message_writer.specs.Copying.{MayNotMiss, Misses, lacks_required, left_out_of, sets_of};
 ghost use Rattle.dnw_message_writer.specs.Needs.{with_all_asked, has_required, purpose_of, holding_all};
 
 use crate::copying::{CopyError, flags_of, next_of};
-use crate::needs::Purpose;
+use crate::needs::{Purpose, is_server};
 use crate::section::{Section, WriteError};
 use crate::state::count_of;
 use dnw_message_read::items::{Queries, Records};
@@ -80,7 +80,7 @@ fn lacks_required(purpose: &Purpose<'_>, source: &MessageRef<'_>, message: &[u8]
 /// Returns `true` if a record of a section is left out that the message has to have.
 fn lacks(purpose: &Purpose<'_>, section: Section, mut records: Records<'_>, message: &[u8]) -> bool
     requires { 12 ≤ length message.now }
-    ensures { result ≡ has_required section purpose.now (left_out_of section records.entry message.now) }
+    ensures { result ≡ has_required section purpose.now false (left_out_of section records.entry message.now) }
 {
     pass(section, &mut records, count_of(message, section));
     has_required(purpose, section, records)
@@ -101,12 +101,14 @@ fn pass(section: Section, records: &mut Records<'_>, count: u16)
 
 /// Returns `true` if a message has to have one of these records of a section.
 fn has_required(purpose: &Purpose<'_>, section: Section, mut records: Records<'_>) -> bool
-    ensures { result ≡ has_required section purpose.now (sets_of section records.entry) }
+    ensures { result ≡ has_required section purpose.now false (sets_of section records.entry) }
 {
+    let mut out = false;
     'records: while let Some(record) = next_of(section, &mut records) {
-        if purpose.is_required(section, &record) {
+        if purpose.is_required(section, out, &record) {
             return true;
         }
+        out = out || is_server(&record);
     }
     false
 }

@@ -2,7 +2,7 @@
 //!
 //! Read `specs/Needs.antt` first: it has each case with its RFC.
 ghost use Rattle.std.specs.Prelude.{◌≡◌};
-ghost use Rattle.dnw_message_writer.specs.Needs.{with_asked, covers_servers, first_cut, is_of_address, is_asked, is_below, is_below_cut, is_glue, is_of_query, is_of_servers, is_request, is_required, is_required_in, is_transfer, is_uncut, purpose_by, holding};
+ghost use Rattle.dnw_message_writer.specs.Needs.{with_asked, covers_servers, first_cut, is_of_address, is_asked, is_below, is_below_cut, is_glue, is_of_query, is_extra, is_server, signs_servers, is_request, is_required, is_required_in, is_transfer, is_uncut, purpose_by, holding};
 
 use crate::reply::field_at;
 use crate::section::Section;
@@ -74,20 +74,21 @@ impl<'m> Purpose<'m> {
         is_request(self.flags) || is_transfer(self.asked)
     }
 
-    /// Returns `true` if the message has to have this record of a section.
-    pub fn is_required(&self, section: Section, item: &RecordRef<'_>) -> bool
-        ensures { result ≡ is_required section self.now item.now }
+    /// Returns `true` if the message has to have this record of a section. The signatures of servers go with them: `out` is whether a
+    /// server of the section is left out before the record, as `is_server` says of each.
+    pub fn is_required(&self, section: Section, out: bool, item: &RecordRef<'_>) -> bool
+        ensures { result ≡ is_required section self.now out item.now }
     {
-        !is_of_query(self.flags) || self.is_required_in(section, item)
+        !is_of_query(self.flags) || self.is_required_in(section, out, item)
     }
 
     /// Returns `true` if the response to a query has to have this record of a section.
-    fn is_required_in(&self, section: Section, item: &RecordRef<'_>) -> bool
-        ensures { result ≡ is_required_in section self.now item.now }
+    fn is_required_in(&self, section: Section, out: bool, item: &RecordRef<'_>) -> bool
+        ensures { result ≡ is_required_in section self.now out item.now }
     {
         match section {
             Section::Queries | Section::Answers => true,
-            Section::Authorities => !(self.has_data && is_of_servers(item)),
+            Section::Authorities => !(self.has_data && is_extra(out, item)),
             Section::Additionals => !self.has_data && self.is_glue(item),
         }
     }
@@ -144,13 +145,25 @@ fn is_of_query(flags: u16) -> bool
     flags / 2048 % 16 == 0
 }
 
-/// Returns `true` for the servers of a zone, and for what signs them.
-fn is_of_servers(item: &RecordRef<'_>) -> bool
-    ensures { result ≡ is_of_servers item.now }
+/// Returns `true` for a server, and for what signs servers if one of them is left out before it.
+fn is_extra(out: bool, item: &RecordRef<'_>) -> bool
+    ensures { result ≡ is_extra out item.now }
 {
-    let code = item.record_type().code();
-    code == RecordType::NS.code()
-        || (code == RecordType::RRSIG.code() && covers_servers(item.rdata()))
+    is_server(item) || (out && signs_servers(item))
+}
+
+/// Returns `true` for a server of a zone: NS (RFC 1035, section 3.3.11).
+pub fn is_server(item: &RecordRef<'_>) -> bool
+    ensures { result ≡ is_server item.now }
+{
+    item.record_type().code() == RecordType::NS.code()
+}
+
+/// Returns `true` for what signs the servers of a zone.
+pub(crate) fn signs_servers(item: &RecordRef<'_>) -> bool
+    ensures { result ≡ signs_servers item.now }
+{
+    item.record_type().code() == RecordType::RRSIG.code() && covers_servers(item.rdata())
 }
 
 /// Returns `true` if the type that the data of an RRSIG cover, which their first two octets are, is NS.

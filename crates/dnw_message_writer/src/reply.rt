@@ -2,10 +2,10 @@
 ghost use Rattle.std.specs.Prelude.{◌≡◌, ◌+◌, ◌↔◌, ◌≤◌, length, nat_lt, if◌then◌else◌, IfErr, IfOk, IsTrue, OnErr, OnOk};
 ghost use Rattle.dnw_message_read.specs.Edns.{is_opt};
 ghost use Rattle.dnw_message_writer.specs.Inside.Asked.{AsksByOpt, HasAdditionalsAlone};
-ghost use Rattle.dnw_message_writer.specs.Replies.{AsksByEdns, AsksOf, BeginsAsked, FailsToBeginAsked, FailsToReply, IsRequest, BeginsReplyTo, field_at, nothing_asked, reply_code, reply_flags};
+ghost use Rattle.dnw_message_writer.specs.Replies.{AsksByEdns, AsksOf, BeginsAsked, BeginsReplyTo, FailsToBeginAsked, FailsToReply, IsRequest, closed_for, field_at, held_for, is_bare, malformed, most_code, nothing_asked, reply_code, reply_flags};
 
 use crate::edns::are_options;
-use crate::section::WriteError;
+use crate::section::{Section, WriteError};
 use crate::standing::FIRST_ITEM;
 use crate::state::WriterState;
 use dnw_base::limits::{MAX_NAME, MIN_PAYLOAD};
@@ -21,8 +21,17 @@ const OPT_SIZE: usize = 11;
 /// The response code of a request that is not understood (RFC 1035, section 4.1.1).
 const FORMAT_ERROR: u16 = 1;
 
+/// The response code of a request with an operation that is not implemented (RFC 1035, section 4.1.1).
+const NOT_IMPLEMENTED: u16 = 4;
+
 /// The response code of a request with a version of EDNS that is not known (RFC 6891, section 6.1.3).
 const BAD_VERSION: u16 = 16;
+
+/// The greatest response code that a header has (RFC 1035, section 4.1.1).
+const MOST_IN_HEADER: u16 = 15;
+
+/// The greatest response code of a message with EDNS (RFC 6891, section 6.1.3).
+const MOST_BY_EDNS: u16 = 4095;
 
 /// What a request asks of its reply.
 #[derive(Clone, Copy, Debug, PartialEq, Eq)]
@@ -43,6 +52,9 @@ pub enum ReplyError {
     /// The request has no header, or is a reply itself.
     #[error("the octets are no request")]
     NoRequest,
+    /// The response code has more bits than the reply can have: twelve with EDNS, and four without.
+    #[error("the response code has too many bits")]
+    LongCode,
     /// The header or the question has no room.
     #[error("{0}")]
     Write(WriteError),
@@ -60,39 +72,58 @@ impl From<WriteError> for ReplyError {
 }
 
 impl WriterState {
-    /// Begins the reply to a request: with its id, operation, RD and CD, and its question. AA, RA, AD and the response code are those
-    /// of `flags`. Returns what the request asks.
+    /// Begins the reply to a request: with its id, operation, RD and CD, and its question. AA, RA and AD are those of `flags`, and
+    /// `code` is the response code, if the request has to get no other. Returns what the request asks.
     ///
-    /// A request that cannot be read, or has more than one question (RFC 9619), or breaks a rule of EDNS, is answered with FORMERR and
-    /// without an `OPT` record (RFC 6891, section 7); one of another version of EDNS with BADVERS, whose high bits the `OPT` record has
-    /// to have. If it fails, the state is unchanged, but the octets of the message may have changed.
+    /// A request that cannot be read, or has more than one question (RFC 9619), or breaks a rule of EDNS, is answered with FORMERR, and
+    /// in the last case without an `OPT` record (RFC 6891, section 7); one of another version of EDNS with BADVERS, whose high bits the
+    /// `OPT` record has to have. Replies with these codes, or with NOTIMP, take additional records alone: `OPT`, and a signature.
+    ///
+    /// It fails with `LongCode` if the reply has no place for the response code: one above 15 needs EDNS, which a reply has only if the
+    /// request has (RFC 6891, section 7). If it fails, the state is unchanged, but the octets of the message may have changed.
     pub fn reply_to(
         &mut self,
         message: &mut [u8],
         request: &[u8],
         flags: u16,
+        code: u16,
         max_size: usize,
     ) -> Result<Asked, ReplyError>
-        ensures ok { IfOk result (λ asked. BeginsReplyTo request.now flags max_size asked message.old self.new message.new) }
-        ensures err { IfErr result (FailsToReply request.now flags max_size message.old) }
+        ensures ok { IfOk result (λ asked. BeginsReplyTo request.now flags code max_size asked message.old self.new message.new) }
+        ensures err { IfErr result (FailsToReply request.now flags code max_size message.old) }
         ensures same { OnErr result (self.new ≡ self.old) }
     {
         if !is_request(request) {
             return Err(ReplyError::NoRequest);
         }
         let (asked, query) = asked_of(request);
-        let saved = *self;
+        let code = reply_code(asked, code);
+        if code > most_code(asked) {
+            return Err(ReplyError::LongCode);
+        }
         let id = field_at(request, 0);
-        let own = reply_flags(field_at(request, 2), flags, reply_code(asked, flags));
-        let begun = self.begin_with(message, id, own, max_size, query);
+        let flags = reply_flags(field_at(request, 2), flags, code % 16);
+        let saved = *self;
+        let begun = self.begin_with(message, id, flags, max_size, query);
         if let Err(error) = begun {
             *self = saved;
             return Err(ReplyError::Write(error));
         }
+        self.prepare_for(asked, code);
+        Ok(asked)
+    }
+
+    /// Holds back the octets of the `OPT` record that a reply is to have, and takes additional records alone from now on if a reply
+    /// with this response code is whole without a record.
+    fn prepare_for(&mut self, asked: Asked, code: u16)
+        ensures { self.new ≡ closed_for code (held_for asked self.old) }
+    {
         if asked.has_edns {
             self.hold_back(OPT_SIZE);
         }
-        Ok(asked)
+        if is_bare(code) {
+            self.rank = Section::Additionals.rank();
+        }
     }
 
     /// Begins a message with a question, if there is one.
@@ -147,14 +178,29 @@ fn reply_flags(requested: u16, own: u16, code: u16) -> u16
     0x8000 | (requested & 0x7910) | (own & 0x04a0) | code
 }
 
-/// Returns the low four bits of the response code of a reply.
-fn reply_code(asked: Asked, flags: u16) -> u16
-    ensures { result ≡ reply_code asked flags }
+/// Returns the response code of a reply: the server's, if the request has to get no other.
+pub fn reply_code(asked: Asked, own: u16) -> u16
+    ensures { result ≡ reply_code asked own }
 {
-    if asked.rcode == 0 {
-        return flags % 16;
+    if asked.rcode == 0 { own } else { asked.rcode }
+}
+
+/// Returns the greatest response code that a reply can have.
+fn most_code(asked: Asked) -> u16
+    ensures { result ≡ most_code asked }
+{
+    if asked.has_edns {
+        MOST_BY_EDNS
+    } else {
+        MOST_IN_HEADER
     }
-    asked.rcode % 16
+}
+
+/// Returns `true` if a reply with this response code is whole without a record.
+fn is_bare(code: u16) -> bool
+    ensures { result ≡ is_bare code }
+{
+    code == FORMAT_ERROR || code == NOT_IMPLEMENTED || code == BAD_VERSION
 }
 
 /// Returns what a request asks, and the question that its reply repeats.
@@ -165,12 +211,26 @@ fn asked_of(request: &[u8]) -> (Asked, Option<QueryRef<'_>>)
     let Ok(message) = MessageRef::read(request) else {
         return (nothing_asked(FORMAT_ERROR), None);
     };
+    let asked = asked_by_edns(&message);
     let mut queries = message.queries();
     let first = queries.next();
     if queries.next().is_some() {
-        return (nothing_asked(FORMAT_ERROR), None);
+        return (malformed(asked), None);
     }
-    (asked_by_edns(&message), first)
+    (asked, first)
+}
+
+/// Returns what a request asks that is answered with FORMERR, if it is not with another code.
+fn malformed(asked: Asked) -> Asked
+    ensures { result ≡ malformed asked }
+{
+    if asked.rcode == 0 {
+        return Asked {
+            rcode: FORMAT_ERROR,
+            ..asked
+        };
+    }
+    asked
 }
 
 /// Returns what a message asks by EDNS. Mostly its only record is an `OPT` record.

@@ -145,10 +145,10 @@ fn a_last_record_has_what_is_held_back(rt: HostRuntime) -> Result<(), Fail> {
     assert!(rt; add_addresses(&mut state, &mut buffer, &owner, 1).is_err());
     let data = [Piece::Octets(SECOND)];
     let last = state.last_record(&mut buffer, 17, owner.wire_labels(), 250, 255, 0, &data);
-    assert!(rt; last.is_ok() && state.end == 45);
+    assert!(rt; last.is_ok() && state.end == 46);
     assert!(rt;
-        &buffer[29..45]
-            == b"\xc0\x0c\x00\xfa\x00\xff\x00\x00\x00\x00\x00\x04\xc0\x00\x02\x02".as_slice()
+        &buffer[29..46]
+            == b"\x01a\x00\x00\xfa\x00\xff\x00\x00\x00\x00\x00\x04\xc0\x00\x02\x02".as_slice()
     );
     state.max_size = 64;
     let outcome = add_addresses(&mut state, &mut buffer, &owner, 1);
@@ -176,7 +176,7 @@ fn a_reply_has_the_question_edns_and_padding(rt: HostRuntime) -> Result<(), Fail
         dnssec_ok: true,
         rcode: 0,
     };
-    assert!(rt; state.reply_to(&mut buffer, QUERY, 0x0400, 512) == Ok(asked));
+    assert!(rt; state.reply_to(&mut buffer, QUERY, 0x0400, 0, 512) == Ok(asked));
     assert!(rt; state.end == 19 && state.reserved == 11);
     let owner = whole_name(b"\x01a\x00").unwrap();
     let answers = Section::Answers;
@@ -218,17 +218,19 @@ fn a_reply_has_the_question_edns_and_padding(rt: HostRuntime) -> Result<(), Fail
 fn what_is_no_request_has_no_reply(rt: HostRuntime) {
     let mut buffer = [7; 100];
     let mut state = no_message();
-    let outcome = state.reply_to(&mut buffer, REPLY, 0, 512);
+    let outcome = state.reply_to(&mut buffer, REPLY, 0, 0, 512);
     assert!(rt; outcome == Err(ReplyError::NoRequest) && buffer == [7; 100]);
-    let outcome = state.reply_to(&mut buffer, &QUERY[..11], 0, 512);
+    let outcome = state.reply_to(&mut buffer, &QUERY[..11], 0, 0, 512);
     assert!(rt; outcome == Err(ReplyError::NoRequest));
+    let outcome = state.reply_to(&mut buffer, QUERY, 0, 4096, 512);
+    assert!(rt; outcome == Err(ReplyError::LongCode) && buffer == [7; 100]);
     let refused = Asked {
         has_edns: false,
         max_payload: 512,
         dnssec_ok: false,
         rcode: 1,
     };
-    assert!(rt; state.reply_to(&mut buffer, &QUERY[..18], 0x0400, 512) == Ok(refused));
+    assert!(rt; state.reply_to(&mut buffer, &QUERY[..18], 0x0400, 0, 512) == Ok(refused));
     assert!(rt; &buffer[..12] == b"\xab\xcd\x85\x11\x00\x00\x00\x00\x00\x00\x00\x00".as_slice());
     assert!(rt; state.end == 12);
 }

@@ -53,7 +53,7 @@ fn option_text_size(len: usize) -> usize {
 pub(crate) fn pack(message: &[u8], max_size: u16, packed: &mut Vec<u8>) -> Result<bool, Error> {
     packed.clear();
     // The buffer is a limit too: what has no room in it is left out.
-    packed.reserve(max_size.into());
+    packed.reserve(HEADER_SIZE.max(max_size.into()));
     let (mut result, room) = (Packed::default(), packed.spare_capacity_mut());
     let (first, size) = (room.as_mut_ptr().cast(), room.len());
     // SAFETY: pointers with their lengths, see the module; and the room is not read.

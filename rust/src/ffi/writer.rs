@@ -37,19 +37,28 @@ impl Writer {
         outcome(number, ())
     }
 
-    /// Begins the reply to a request, with flags, and returns what the request says by EDNS, with the reply's code.
+    /// Begins the reply to a request, with flags and a code, and returns what the request says by EDNS, with the reply's
+    /// code.
     pub(crate) fn reply(
         &mut self,
         message: &mut [u8],
         max_size: usize,
         request: &[u8],
-        flags: u16,
+        (flags, code): (u16, u16),
     ) -> Result<Edns, Error> {
         let (room, size, mut edns) = (message.as_mut_ptr(), message.len(), Edns::default());
         let (asked, len) = (request.as_ptr(), request.len());
         // SAFETY: pointers with their lengths, see the module, and pointers to structs of these types.
-        let number = unsafe { dnw_writer_reply(room, size, max_size, asked, len, flags, self, &mut edns) };
+        let number = unsafe { dnw_writer_reply(room, size, max_size, asked, len, flags, code, self, &mut edns) };
         outcome(number, edns)
+    }
+
+    /// Adds records of a list from an offset on, as many as there is room for, and returns the offset of the next item.
+    pub(crate) fn fill(&mut self, message: &mut [u8], items: &[u8], start: usize) -> Result<usize, Error> {
+        let (room, size, mut next) = (message.as_mut_ptr(), message.len(), 0);
+        // SAFETY: pointers with their lengths, see the module, and pointers to structs of these types.
+        let number = unsafe { dnw_writer_fill(room, size, items.as_ptr(), items.len(), start, self, &mut next) };
+        outcome(number, next)
     }
 
     /// Adds a question, of a type and a class.
@@ -155,8 +164,7 @@ pub(crate) fn write_list(
     // An item takes no more octets in a message than in the list.
     message.reserve(HEADER_SIZE + items.len().min(max_size.into()));
     let (mut result, room) = (Packed::default(), message.spare_capacity_mut());
-    let (first, max_size) = (room.as_mut_ptr().cast(), usize::from(max_size));
-    let size = room.len().min(max_size);
+    let (first, size, max_size) = (room.as_mut_ptr().cast(), room.len(), usize::from(max_size));
     // SAFETY: pointers with their lengths, see the module; and the room is not read.
     let number =
         unsafe { dnw_message_write(items.as_ptr(), items.len(), max_size, id, flags, first, size, &mut result) };

@@ -1,5 +1,5 @@
 -- The items of a list are written one after another.
-use Rattle.std.proofs.Common.{ap, arith, length, refl}
+use Rattle.std.proofs.Common.{ap, arith, length, refl, ◌∙◌}
 use Rattle.dnw_c_messages.specs.ListCalls.{progress}
 use Rattle.dnw_c_messages.proofs.Runs.{goes_onward, gone_none, gone_on}
 use Rattle.dnw_c_messages.proofs.writing.write_items.Goals as goal
@@ -15,3 +15,8 @@ list-smaller c =
 pub list-preserved : goal.list-preserved
 list-preserved c =
     gone_on c.list.invariant (progress c.write_next.new.decoder c.write_next.new.writer c.write_next.new.message c.write_next.new.left) c.in_ok-write_next.ensures.ok
+
+pub returns-clause-ok : goal.returns-clause-ok
+returns-clause-ok c =
+    let ends = c.is_empty.ensures.0 c.list-test.false in
+    (c.list.decoder, c.list.left.closed, c.list.left.servers, c.list.invariant.goes, ends ∙ ap length c.list.invariant.same)

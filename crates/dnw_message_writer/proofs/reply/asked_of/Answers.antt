@@ -8,4 +8,4 @@ returns c =
     let (k, at, few) = c.in-Ok.ensures.ok in
     let only = only_one c.queries-queries.result c.next-first.result c.next-first.new.self c.next.new.self c.next.result c.next-first.ensures.steps
     c.next.ensures.steps (sym c.is_some.ensures ∙ c.if-is_some.false) in
-    inr (c.in-Ok.message, k, at, inr (subst (λ q. IsOnlyQuery q c.next-first.result) c.queries-queries.ensures only, c.asked_by_edns.ensures))
+    inr (c.in-Ok.message, k, at, inr (subst (λ q. IsOnlyQuery q c.next-first.result) c.queries-queries.ensures only, c.asked_by_edns-asked.ensures))

@@ -1,12 +1,13 @@
 use Rattle.std.proofs.Common.{length}
 use Rattle.dnw_message_writer.specs.Copying.{copied_form, held_in}
+use Rattle.dnw_message_writer.specs.States.{for_last}
 use Rattle.dnw_message_writer.specs.declared.section.Section.TheVariants.{Additionals}
 use Rattle.dnw_message_writer.proofs.Passing.{Passing}
 use Rattle.dnw_message_writer.proofs.state.WriterState.copy_held.Given as goal
 
 abbrev pub invariant-records : goal.invariant-records
 invariant-records l =
-    Passing Additionals copied_form (held_in l.source.additionals) (record l.fn.self { reserved = 0 }) l.fn.message (held_in l.records) l.self l.message
+    Passing Additionals copied_form (held_in l.source.additionals) (for_last l.fn.self.reserved l.fn.self) l.fn.message (held_in l.records) l.self l.message
 
 abbrev pub decreases-records : goal.decreases-records
 decreases-records l = length l.records

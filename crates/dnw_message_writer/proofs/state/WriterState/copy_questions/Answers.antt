@@ -10,7 +10,6 @@ returns-clause-ok c =
     (λ adds. record {
       first = c.begin_copy.new.self;
       begun = c.begin_copy.new.message;
-      enough = c.requires.enough;
       id_fits = rw id at c.begin_copy.ensures.fit.0;
       flags_fit = rw c.flags_of-flags.ensures at c.begin_copy.ensures.fit.1;
       begins = rw (id, c.flags_of-flags.ensures) at c.begin_copy.ensures.begins;
