@@ -45,7 +45,7 @@ _HEADER = struct.Struct("!HHHHHH")
 _head_of: Any = struct.Struct("!HH").unpack_from
 _HEADER_SIZE = 12
 # The first octets of the items of a list, by enum dnw_list_item in dns_names_wire.h.
-_ANSWER, _AUTHORITY, _ADDITIONAL, _REQUIRED, _LAST = b"\1", b"\2", b"\3", b"\x23", b"\x43"
+ANSWER_ITEM, _AUTHORITY, _ADDITIONAL, _REQUIRED, _LAST = b"\1", b"\2", b"\3", b"\x23", b"\x43"
 # The type that a SIG covers if it signs a message, and not records: it is a SIG(0) then (RFC 2931, section 3).
 _NO_TYPE = b"\0\0"
 _MOST = 65535
@@ -638,7 +638,7 @@ class _Made(Message):
         parts = [self._asked]
         add = parts.append
         for record in self._answers:
-            add(_ANSWER)
+            add(ANSWER_ITEM)
             add(record._message if record._is_whole else record.to_wire())
         for record in self._authorities:
             add(_AUTHORITY)

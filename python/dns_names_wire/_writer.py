@@ -8,7 +8,7 @@ from ._data import put_pairs
 from ._errors import check
 from ._library import Writer, library
 from ._library import Edns as ReadEdns
-from ._messages import Edns, Header, Message, Question, edns_of_reply
+from ._messages import ANSWER_ITEM, Edns, Header, Message, Question, edns_of_reply
 from ._records import Record
 from ._sets import RRset
 
@@ -241,7 +241,7 @@ def transfer(request: Message, records: Iterable[Record], max_size: int = _MOST)
     >>> [len(Message.from_wire(octets).answers) for octets in messages]
     [3, 1]
     """
-    items, at = b"".join([part for record in records for part in (b"\1", record.to_wire())]), c_size_t()
+    items, at = b"".join([part for record in records for part in (ANSWER_ITEM, record.to_wire())]), c_size_t()
     while True:
         writer = MessageWriter.reply(request, max_size, authoritative=True)
         if writer._code:

@@ -16,7 +16,7 @@ use core::fmt;
 
 /// The sections, in the order in which they are written.
 const QUESTIONS: u8 = 0;
-const ANSWERS: u8 = 1;
+pub(crate) const ANSWERS: u8 = 1;
 const AUTHORITIES: u8 = 2;
 const ADDITIONALS: u8 = 3;
 const SECTIONS: usize = 4;
@@ -31,7 +31,7 @@ const USUAL_SIZE: usize = 512;
 /// The octets of the longest reply without records: a header and a question.
 const REPLY_SIZE: usize = HEADER_SIZE + ffi::FORM_SIZE + 4;
 /// The largest message that a reply accepts, in octets. It goes through most networks without fragmentation.
-const USUAL_PAYLOAD: u16 = 1232;
+pub(crate) const USUAL_PAYLOAD: u16 = 1232;
 /// The greatest response code that fits in a header.
 const MOST_IN_HEADER: u16 = 15;
 

@@ -1,4 +1,5 @@
 //! Responses to AXFR and IXFR, which are split into messages.
+use crate::builder::{ANSWERS, USUAL_PAYLOAD};
 use crate::error::Error;
 use crate::ffi;
 use crate::header::Header;
@@ -7,11 +8,6 @@ use crate::record_buf::RecordBuf;
 use alloc::vec;
 use alloc::vec::Vec;
 use core::borrow::Borrow;
-
-/// The octet of an answer in a list of items.
-const ANSWER: u8 = 1;
-/// The largest message that a server accepts over UDP, in octets, if it says one.
-const USUAL_PAYLOAD: u16 = 1232;
 
 /// The messages of a response to AXFR or IXFR over TCP (RFC 5936, section 2.2; RFC 1995, section 4): each a reply to the
 /// request, with AA and the question, and with as many of the records as it has room for. It is an iterator over them.
@@ -57,7 +53,7 @@ impl Transfer {
     pub fn new<R: Borrow<RecordBuf>>(request: &Message<'_>, records: impl IntoIterator<Item = R>) -> Self {
         let mut items = Vec::new();
         for record in records {
-            items.push(ANSWER);
+            items.push(ANSWERS);
             items.extend_from_slice(record.borrow().as_wire());
         }
         Transfer { request: request.octets().to_vec(), items, next: 0, max_size: u16::MAX, is_over: false }
