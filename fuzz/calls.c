@@ -44,19 +44,10 @@ static uint8_t contents[PARAMETERS][LONGEST];
 static struct room rooms[2][PARAMETERS];
 static uint64_t calls[FUNCTIONS], successes[FUNCTIONS];
 
-/* Takes octets from the front of the input, as many as there are. */
-static struct part take(struct part *rest, size_t len)
-{
-    struct part taken = {rest->bytes, len < rest->len ? len : rest->len};
-    rest->bytes += taken.len;
-    rest->len -= taken.len;
-    return taken;
-}
-
 static uint64_t take_number(struct part *rest, size_t size)
 {
     uint64_t number = 0;
-    for (struct part taken = take(rest, size); taken.len > 0; taken.bytes++, taken.len--)
+    for (struct part taken = take_part(rest, size); taken.len > 0; taken.bytes++, taken.len--)
         number = number << 8 | *taken.bytes;
     return number;
 }
@@ -89,14 +80,14 @@ static void take_input(struct part *rest, struct argument *it)
     uint64_t tag = take_number(rest, 1);
     size_t len = 0, name = it->is->name;
     if (tag < 0xD0) {
-        struct part taken = take(rest, tag < 0xC0 ? tag : take_number(rest, 2));
+        struct part taken = take_part(rest, tag < 0xC0 ? tag : take_number(rest, 2));
         len = copied(it->content, taken.bytes, taken.len);
     } else if (tag < 0xE0) {
         len = copied(it->content, inputs[name], left.input_len[name]);
     } else if (tag < 0xF0) {
         len = copied(it->content, outputs[tag % OUTPUTS], left.output_len[tag % OUTPUTS]);
     } else if (tag > 0xF0) {
-        struct part taken = take(rest, take_number(rest, 1));
+        struct part taken = take_part(rest, take_number(rest, 1));
         len = taken.len == 0 ? 0 : put_repeated(it->content, LONGEST, taken.bytes, taken.len, (size_t)1 << (tag & 15));
     }
     it->is_null = tag == 0xF0;
@@ -141,7 +132,7 @@ static void take_object(struct part *rest, struct argument *it)
         it->content[offset] = (uint8_t)take_number(rest, 1);
     }
     if (tag >= 0xE0) {
-        struct part taken = take(rest, tag % 16 + 1);
+        struct part taken = take_part(rest, tag % 16 + 1);
         for (size_t i = 0; taken.len > 0 && i < size; i++)
             it->content[i] = taken.bytes[i % taken.len];
     }

@@ -104,6 +104,14 @@ void saw(size_t number)
     seen[number % sizeof seen] = 1;
 }
 
+struct part take_part(struct part *rest, size_t len)
+{
+    struct part taken = {rest->bytes, len < rest->len ? len : rest->len};
+    rest->bytes += taken.len;
+    rest->len -= taken.len;
+    return taken;
+}
+
 bool cut_in_three(const uint8_t *data, size_t size, struct part parts[3])
 {
     if (size < 2 || (size_t)data[0] + data[1] > size - 2)

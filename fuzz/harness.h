@@ -57,6 +57,9 @@ struct part {
    false if the input is shorter. */
 bool cut_in_three(const uint8_t *data, size_t size, struct part parts[3]);
 
+/* Takes octets from the front of what is left of an input, as many as there are. */
+struct part take_part(struct part *rest, size_t len);
+
 /* Puts bytes into a buffer so many times and once more, as often as they fit, and returns how many octets these are. */
 size_t put_repeated(uint8_t *buffer, size_t size, const uint8_t *bytes, size_t len, size_t times);
 

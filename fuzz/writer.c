@@ -28,24 +28,15 @@ static size_t item_count;
 /* The writer began its message, and nothing was spoiled that the message rests on. */
 static bool is_sound;
 
-/* Takes octets from the front of the input, as many as there are. */
-static struct part take(struct part *rest, size_t len)
-{
-    struct part taken = {rest->bytes, len < rest->len ? len : rest->len};
-    rest->bytes += taken.len;
-    rest->len -= taken.len;
-    return taken;
-}
-
 static uint32_t take_number(struct part *rest, size_t count)
 {
-    struct part taken = take(rest, count);
+    struct part taken = take_part(rest, count);
     return model_number(taken.bytes, taken.len);
 }
 
 static struct part take_block(struct part *rest)
 {
-    return take(rest, take_number(rest, 1));
+    return take_part(rest, take_number(rest, 1));
 }
 
 /* A name of few labels, so that names often end alike, or octets as they are. */
