@@ -472,6 +472,7 @@ static void print_all(uint32_t (*print)(uint16_t, uint8_t *, size_t, size_t *),
 static void named_codes(void)
 {
     static const struct named_code types[] = {
+        /* made by tools/types from crates/dnw_data/specs/Table.antt */
         {DNW_TYPE_ZERO, "TYPE0"}, {DNW_TYPE_A, "A"}, {DNW_TYPE_NS, "NS"}, {DNW_TYPE_MD, "MD"},
         {DNW_TYPE_MF, "MF"}, {DNW_TYPE_CNAME, "CNAME"}, {DNW_TYPE_SOA, "SOA"}, {DNW_TYPE_MB, "MB"},
         {DNW_TYPE_MG, "MG"}, {DNW_TYPE_MR, "MR"}, {DNW_TYPE_NULL, "NULL"}, {DNW_TYPE_WKS, "WKS"},
@@ -500,6 +501,7 @@ static void named_codes(void)
         {DNW_TYPE_AVC, "AVC"}, {DNW_TYPE_DOA, "DOA"}, {DNW_TYPE_AMTRELAY, "AMTRELAY"},
         {DNW_TYPE_RESINFO, "RESINFO"}, {DNW_TYPE_WALLET, "WALLET"}, {DNW_TYPE_CLA, "CLA"},
         {DNW_TYPE_IPN, "IPN"}, {DNW_TYPE_TA, "TA"}, {DNW_TYPE_DLV, "DLV"}, {DNW_TYPE_ANAME, "TYPE65305"},
+        /* made until here */
     };
     static const struct named_code classes[] = {
         {DNW_CLASS_IN, "IN"}, {DNW_CLASS_CH, "CH"}, {DNW_CLASS_HS, "HS"}, {DNW_CLASS_NONE, "NONE"},

@@ -70,6 +70,7 @@ from ._options import (
     ReportChannel as ReportChannel, TcpKeepalive as TcpKeepalive, UnknownOption as UnknownOption,
     ZoneVersion as ZoneVersion,
 )  # fmt: skip
+# made by tools/types from crates/dnw_data/specs/Table.antt
 from ._rdata import (
     A as A, AAAA as AAAA, AFSDB as AFSDB, AMTRELAY as AMTRELAY, APL as APL, AVC as AVC, BRID as BRID, CAA as CAA,
     CDNSKEY as CDNSKEY, CDS as CDS, CERT as CERT, CLA as CLA, CNAME as CNAME, CSYNC as CSYNC, DHCID as DHCID,
@@ -83,6 +84,7 @@ from ._rdata import (
     SVCB as SVCB, TA as TA, TALINK as TALINK, TKEY as TKEY, TLSA as TLSA, TSIG as TSIG, TXT as TXT, URI as URI,
     WALLET as WALLET, WKS as WKS, X25 as X25, ZONEMD as ZONEMD,
 )  # fmt: skip
+# made until here
 from ._records import Record as Record, read_record as read_record, records as records
 from ._reverse import parse_reverse_name as parse_reverse_name, reverse_name as reverse_name
 from ._sets import RRset as RRset, rrsets as rrsets

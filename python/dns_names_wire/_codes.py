@@ -114,6 +114,7 @@ class RecordType(_Code):
     _text_of = staticmethod(type_text)
     _code_of = staticmethod(type_code)
 
+    # made by tools/types from crates/dnw_data/specs/Table.antt
     ZERO: ClassVar["RecordType"]
     A: ClassVar["RecordType"]
     NS: ClassVar["RecordType"]
@@ -213,6 +214,7 @@ class RecordType(_Code):
     TA: ClassVar["RecordType"]
     DLV: ClassVar["RecordType"]
     ANAME: ClassVar["RecordType"]
+    # made until here
 
 
 class RecordClass(_Code):

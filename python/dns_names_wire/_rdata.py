@@ -1,3 +1,4 @@
+# made by tools/types from crates/dnw_data/specs/Table.antt; change it there
 """The data of records: a frozen dataclass for each type."""
 
 from dataclasses import dataclass
@@ -35,6 +36,14 @@ from ._types import TypeSet
 
 
 @dataclass(frozen=True)
+class _Target(Data):
+    target: Name
+
+    if TYPE_CHECKING:
+        def __init__(self, target: NameLike) -> None: ...
+
+
+@dataclass(frozen=True)
 class A(Data, code=1):
     """An IPv4 address (RFC 1035, section 3.4.1)."""
 
@@ -42,24 +51,6 @@ class A(Data, code=1):
 
     if TYPE_CHECKING:
         def __init__(self, address: IPv4Like) -> None: ...
-
-
-@dataclass(frozen=True)
-class AAAA(Data, code=28):
-    """An IPv6 address (RFC 3596, section 2.2)."""
-
-    address: IPv6Address
-
-    if TYPE_CHECKING:
-        def __init__(self, address: IPv6Like) -> None: ...
-
-
-@dataclass(frozen=True)
-class _Target(Data):
-    target: Name
-
-    if TYPE_CHECKING:
-        def __init__(self, target: NameLike) -> None: ...
 
 
 class NS(_Target, code=2):
@@ -78,6 +69,33 @@ class CNAME(_Target, code=5):
     """The canonical name of an alias (RFC 1035, section 3.3.1)."""
 
 
+@dataclass(frozen=True)
+class SOA(Data, code=6):
+    """The start of a zone of authority (RFC 1035, section 3.3.13).
+
+    mname: The primary name server of the zone.
+    rname: The mailbox of the person responsible for the zone.
+    serial: The version of the zone, a serial number (RFC 1982).
+    refresh: The seconds until the zone should be refreshed.
+    retry: The seconds until a failed refresh should be tried again.
+    expire: The seconds after which the zone is no longer authoritative.
+    minimum: The TTL of negative answers, in seconds (RFC 2308, section 4).
+    """
+
+    mname: Name
+    rname: Name
+    serial: U32
+    refresh: U32
+    retry: U32
+    expire: U32
+    minimum: U32
+
+    if TYPE_CHECKING:
+        def __init__(
+            self, mname: NameLike, rname: NameLike, serial: U32, refresh: U32, retry: U32, expire: U32, minimum: U32
+        ) -> None: ...
+
+
 class MB(_Target, code=7):
     """A host of a mailbox (RFC 1035, section 3.3.3)."""
 
@@ -90,36 +108,34 @@ class MR(_Target, code=9):
     """The new name of a mailbox (RFC 1035, section 3.3.8)."""
 
 
+@dataclass(frozen=True)
+class WKS(Data, code=11):
+    """The services of a host by their ports, which is obsolete (RFC 1035, section 3.4.2).
+
+    address: The address of the host.
+    protocol: The protocol.
+    bitmap: A bit for each port.
+    """
+
+    address: IPv4Address
+    protocol: U8
+    bitmap: Rest
+
+    if TYPE_CHECKING:
+        def __init__(self, address: IPv4Like, protocol: U8, bitmap: Rest) -> None: ...
+
+
 class PTR(_Target, code=12):
     """A pointer to another name (RFC 1035, section 3.3.12)."""
 
 
-class DNAME(_Target, code=39):
-    """The name that a subtree is an alias of (RFC 6672)."""
-
-
-@dataclass(frozen=True)
-class SOA(Data, code=6):
-    """The start of a zone of authority (RFC 1035, section 3.3.13)."""
-
-    mname: Name
-    rname: Name
-    serial: U32
-    refresh: U32
-    retry: U32
-    expire: U32
-    minimum: U32
-
-    if TYPE_CHECKING:
-        def __init__(
-            self, mname: NameLike, rname: NameLike, serial: U32, refresh: U32, retry: U32, expire: U32,
-            minimum: U32
-        ) -> None: ...
-
-
 @dataclass(frozen=True)
 class HINFO(Data, code=13):
-    """The CPU and the operating system of a host (RFC 1035, section 3.3.2)."""
+    """The CPU and the operating system of a host (RFC 1035, section 3.3.2).
+
+    cpu: The CPU.
+    os: The operating system.
+    """
 
     cpu: String
     os: String
@@ -127,7 +143,11 @@ class HINFO(Data, code=13):
 
 @dataclass(frozen=True)
 class MINFO(Data, code=14):
-    """A mailbox for requests and one for errors (RFC 1035, section 3.3.7)."""
+    """A mailbox for requests and one for errors (RFC 1035, section 3.3.7).
+
+    rmailbx: The mailbox for requests.
+    emailbx: The mailbox for errors.
+    """
 
     rmailbx: Name
     emailbx: Name
@@ -138,13 +158,25 @@ class MINFO(Data, code=14):
 
 @dataclass(frozen=True)
 class MX(Data, code=15):
-    """A mail server for a domain (RFC 1035, section 3.3.9)."""
+    """A mail server for a domain (RFC 1035, section 3.3.9).
+
+    preference: Lower values are preferred.
+    exchange: The host.
+    """
 
     preference: U16
     exchange: Name
 
     if TYPE_CHECKING:
         def __init__(self, preference: U16, exchange: NameLike) -> None: ...
+
+
+class RT(MX, code=21):
+    """A host that routes to another one (RFC 1183, section 3.3)."""
+
+
+class KX(MX, code=36):
+    """A host that exchanges keys (RFC 2230, section 3)."""
 
 
 @dataclass(frozen=True)
@@ -154,13 +186,41 @@ class TXT(Data, code=16):
     strings: Strings
 
 
+class ISDN(TXT, code=20):
+    """An address of ISDN, and a subaddress if there is one (RFC 1183, section 3.2)."""
+
+
+class NINFO(TXT, code=56):
+    """The state of a zone (the template NINFO of IANA's registry)."""
+
+
 class SPF(TXT, code=99):
-    """SPF texts, now in TXT records (RFC 7208, section 3.1)."""
+    """SPF texts (RFC 4408, section 3.1.1), now in TXT records (RFC 7208, section 3.1)."""
+
+
+class AVC(TXT, code=258):
+    """What is known of an application (the template AVC of IANA's registry)."""
+
+
+class RESINFO(TXT, code=261):
+    """What a resolver says of itself (RFC 9606, section 4)."""
+
+
+class WALLET(TXT, code=262):
+    """A public address of a wallet (the template WALLET of IANA's registry)."""
+
+
+class CLA(TXT, code=263):
+    """The convergence layer adapters of a node of the Bundle Protocol (the template CLA of IANA's registry)."""
 
 
 @dataclass(frozen=True)
 class RP(Data, code=17):
-    """The person responsible for a name, and the owner of a TXT record (RFC 1183, section 2.2)."""
+    """The person responsible for a name, and the owner of a TXT record (RFC 1183, section 2.2).
+
+    mbox: The mailbox of the person.
+    txt: The owner of a TXT record about the person, or the root for none.
+    """
 
     mbox: Name
     txt: Name
@@ -171,7 +231,11 @@ class RP(Data, code=17):
 
 @dataclass(frozen=True)
 class AFSDB(Data, code=18):
-    """A server of an AFS or DCE cell (RFC 1183, section 1)."""
+    """A server of an AFS or DCE cell (RFC 1183, section 1).
+
+    subtype: 1 for AFS, 2 for DCE.
+    hostname: The host.
+    """
 
     subtype: U16
     hostname: Name
@@ -181,8 +245,95 @@ class AFSDB(Data, code=18):
 
 
 @dataclass(frozen=True)
+class X25(Data, code=19):
+    """An address of X.25 (RFC 1183, section 3.1)."""
+
+    address: String
+
+
+@dataclass(frozen=True)
+class NSAP(Data, code=22):
+    """An address of OSI (RFC 1706, section 5)."""
+
+    address: Rest
+
+
+class NSAP_PTR(_Target, code=23):
+    """The name of an address of OSI (RFC 1706, section 6)."""
+
+
+@dataclass(frozen=True)
+class PX(Data, code=26):
+    """A mapping between mail addresses and those of X.400 (RFC 2163, section 4).
+
+    preference: Lower values are preferred.
+    map822: The part that is a domain name.
+    mapx400: The part that is from an address of X.400.
+    """
+
+    preference: U16
+    map822: Name
+    mapx400: Name
+
+    if TYPE_CHECKING:
+        def __init__(self, preference: U16, map822: NameLike, mapx400: NameLike) -> None: ...
+
+
+@dataclass(frozen=True)
+class GPOS(Data, code=27):
+    """Where a host is, in degrees and metres (RFC 1712, section 3).
+
+    longitude: The longitude.
+    latitude: The latitude.
+    altitude: The altitude.
+    """
+
+    longitude: String
+    latitude: String
+    altitude: String
+
+
+@dataclass(frozen=True)
+class AAAA(Data, code=28):
+    """An IPv6 address (RFC 3596, section 2.2)."""
+
+    address: IPv6Address
+
+    if TYPE_CHECKING:
+        def __init__(self, address: IPv6Like) -> None: ...
+
+
+@dataclass(frozen=True)
+class LOC(Data, code=29):
+    """A location: 16 octets if the first, the version, is 0 (RFC 1876, section 2)."""
+
+    location: Shaped
+
+
+@dataclass(frozen=True)
+class NXT(Data, code=30):
+    """The next name in a zone and the types at this name, in an old form (RFC 2535, section 5.2).
+
+    next: The next name.
+    bitmap: A bit for each type below 128.
+    """
+
+    next: Name
+    bitmap: Rest
+
+    if TYPE_CHECKING:
+        def __init__(self, next: NameLike, bitmap: Rest) -> None: ...
+
+
+@dataclass(frozen=True)
 class SRV(Data, code=33):
-    """The host and the port of a service (RFC 2782)."""
+    """The host and the port of a service (RFC 2782).
+
+    priority: Lower values are tried first.
+    weight: How often the host is chosen among those of the same priority.
+    port: The port.
+    target: The host.
+    """
 
     priority: U16
     weight: U16
@@ -195,7 +346,15 @@ class SRV(Data, code=33):
 
 @dataclass(frozen=True)
 class NAPTR(Data, code=35):
-    """A rule that rewrites a name (RFC 3403, section 4.1)."""
+    """A rule that rewrites a name (RFC 3403, section 4.1).
+
+    order: The order in which rules are applied.
+    preference: The preference among rules of the same order.
+    flags: What to do after the rule.
+    service: The service.
+    regexp: A regular expression that makes the next name.
+    replacement: The next name.
+    """
 
     order: U16
     preference: U16
@@ -210,13 +369,15 @@ class NAPTR(Data, code=35):
         ) -> None: ...
 
 
-class KX(MX, code=36):
-    """A host that exchanges keys (RFC 2230, section 3)."""
-
-
 @dataclass(frozen=True)
 class CERT(Data, code=37):
-    """A certificate (RFC 4398, section 2)."""
+    """A certificate (RFC 4398, section 2).
+
+    certificate_type: The type of the certificate.
+    key_tag: The tag of its key.
+    algorithm: The algorithm of its key.
+    certificate: The certificate.
+    """
 
     certificate_type: U16
     key_tag: U16
@@ -224,9 +385,29 @@ class CERT(Data, code=37):
     certificate: Rest
 
 
+class DNAME(_Target, code=39):
+    """The name that a subtree is an alias of (RFC 6672, section 2.1)."""
+
+
+@dataclass(frozen=True)
+class APL(Data, code=42):
+    """Address prefixes (RFC 3123, section 4).
+
+    prefixes: Of each the family, the length in bits, whether it is negated, and the octets.
+    """
+
+    prefixes: Prefixes
+
+
 @dataclass(frozen=True)
 class DS(Data, code=43):
-    """The digest of a key of a child zone (RFC 4034, section 5.1)."""
+    """The digest of a key of a child zone (RFC 4034, section 5.1).
+
+    key_tag: The tag of the key.
+    algorithm: The algorithm of the key.
+    digest_type: The digest algorithm.
+    digest: The digest.
+    """
 
     key_tag: U16
     algorithm: U8
@@ -238,9 +419,22 @@ class CDS(DS, code=59):
     """The child's copy of a DS (RFC 7344, section 3.1)."""
 
 
+class TA(DS, code=32768):
+    """The digest of a key that is trusted (the reference of IANA's registry, as DS)."""
+
+
+class DLV(DS, code=32769):
+    """The digest of a key of a zone that is looked up aside (RFC 4431, section 2)."""
+
+
 @dataclass(frozen=True)
 class SSHFP(Data, code=44):
-    """The fingerprint of an SSH key (RFC 4255, section 3.1)."""
+    """The fingerprint of an SSH key (RFC 4255, section 3.1).
+
+    algorithm: The algorithm of the key.
+    fp_type: The fingerprint algorithm.
+    fingerprint: The fingerprint.
+    """
 
     algorithm: U8
     fp_type: U8
@@ -248,8 +442,33 @@ class SSHFP(Data, code=44):
 
 
 @dataclass(frozen=True)
+class IPSECKEY(Data, code=45):
+    """A gateway and its key for IPsec (RFC 4025, section 2.1).
+
+    precedence: Lower values are preferred.
+    gateway: The type of the gateway, the algorithm of the key, and the gateway.
+    public_key: The key.
+    """
+
+    precedence: U8
+    gateway: Shaped
+    public_key: Rest
+
+
+@dataclass(frozen=True)
 class RRSIG(Data, code=46):
-    """A signature of records (RFC 4034, section 3.1). Times are in seconds since 1970, as serial numbers."""
+    """A signature of records (RFC 4034, section 3.1).
+
+    type_covered: The type of the records.
+    algorithm: The algorithm.
+    labels: The number of labels of the owner, without a `*` at the start.
+    original_ttl: The TTL of the records in their zone.
+    expiration: When the signature expires, in seconds since 1970, as a serial number (RFC 1982).
+    inception: When the signature becomes valid, in the same form.
+    key_tag: The tag of the key.
+    signer: The zone of the key.
+    signature: The signature.
+    """
 
     type_covered: RecordType
     algorithm: U8
@@ -274,7 +493,11 @@ class SIG(RRSIG, code=24):
 
 @dataclass(frozen=True)
 class NSEC(Data, code=47):
-    """The next name in a zone, and the types at this name (RFC 4034, section 4.1)."""
+    """The next name in a zone, and the types at this name (RFC 4034, section 4.1).
+
+    next: The next name.
+    types: The types of the owner.
+    """
 
     next: Name
     types: TypeSet
@@ -285,7 +508,13 @@ class NSEC(Data, code=47):
 
 @dataclass(frozen=True)
 class DNSKEY(Data, code=48):
-    """A key of a zone (RFC 4034, section 2.1)."""
+    """A key of a zone (RFC 4034, section 2.1).
+
+    flags: 256 for a zone key, 257 for a zone key that is also a secure entry point.
+    protocol: Always 3.
+    algorithm: The algorithm.
+    key: The key.
+    """
 
     flags: U16
     protocol: U8
@@ -297,13 +526,32 @@ class KEY(DNSKEY, code=25):
     """A key of a host (RFC 2535, section 3.1)."""
 
 
+class RKEY(DNSKEY, code=57):
+    """A key for the encryption of NAPTR records (the template RKEY of IANA's registry)."""
+
+
 class CDNSKEY(DNSKEY, code=60):
     """The child's copy of a DNSKEY (RFC 7344, section 3.2)."""
 
 
 @dataclass(frozen=True)
+class DHCID(Data, code=49):
+    """Which client of DHCP owns a name (RFC 4701, section 3.1)."""
+
+    identifier: Rest
+
+
+@dataclass(frozen=True)
 class NSEC3(Data, code=50):
-    """The next hash in a zone, and the types at this name (RFC 5155, section 3.2)."""
+    """The next hash in a zone, and the types at this name (RFC 5155, section 3.2).
+
+    algorithm: The hash algorithm.
+    flags: 1 for opt-out: unsigned delegations may be between the hashes.
+    iterations: The number of additional iterations of the hash.
+    salt: The salt, which is appended before each iteration.
+    next: The next hash.
+    types: The types of the owner.
+    """
 
     algorithm: U8
     flags: U8
@@ -320,7 +568,13 @@ class NSEC3(Data, code=50):
 
 @dataclass(frozen=True)
 class NSEC3PARAM(Data, code=51):
-    """How the names of a zone are hashed (RFC 5155, section 4.2)."""
+    """How the names of a zone are hashed (RFC 5155, section 4.2).
+
+    algorithm: The hash algorithm.
+    flags: Always 0.
+    iterations: The number of additional iterations of the hash.
+    salt: The salt, which is appended before each iteration.
+    """
 
     algorithm: U8
     flags: U8
@@ -330,7 +584,13 @@ class NSEC3PARAM(Data, code=51):
 
 @dataclass(frozen=True)
 class TLSA(Data, code=52):
-    """A certificate of a TLS server (RFC 6698, section 2.1)."""
+    """A certificate of a TLS server (RFC 6698, section 2.1).
+
+    usage: The certificate usage: what has to match.
+    selector: The selector: the whole certificate, or its public key.
+    mtype: The matching type: the selected content itself, or a hash of it.
+    cert: The content or its hash.
+    """
 
     usage: U8
     selector: U8
@@ -343,8 +603,43 @@ class SMIMEA(TLSA, code=53):
 
 
 @dataclass(frozen=True)
+class HIP(Data, code=55):
+    """The identity of a host, and its rendezvous servers (RFC 8005, section 5).
+
+    identity: The length of the tag, the algorithm of the key, its length, the tag and the key.
+    servers: The servers.
+    """
+
+    identity: Shaped
+    servers: WholeNames
+
+    if TYPE_CHECKING:
+        def __init__(self, identity: Shaped, servers: Iterable[NameLike]) -> None: ...
+
+
+@dataclass(frozen=True)
+class TALINK(Data, code=58):
+    """The links of a chain of trust anchors (the template TALINK of IANA's registry).
+
+    previous: The name before.
+    next: The name after.
+    """
+
+    previous: Name
+    next: Name
+
+    if TYPE_CHECKING:
+        def __init__(self, previous: NameLike, next: NameLike) -> None: ...
+
+
+@dataclass(frozen=True)
 class CSYNC(Data, code=62):
-    """The types that a parent zone may copy from its child (RFC 7477, section 2.1)."""
+    """The types that a parent zone may copy from its child (RFC 7477, section 2.1.1).
+
+    serial: The lowest serial number of the child at which the parent may copy.
+    flags: Whether the parent may copy immediately (1), and whether the serial number is used (2).
+    types: The types to copy.
+    """
 
     serial: U32
     flags: U16
@@ -356,7 +651,13 @@ class CSYNC(Data, code=62):
 
 @dataclass(frozen=True)
 class ZONEMD(Data, code=63):
-    """The digest of a zone (RFC 8976, section 2.2)."""
+    """The digest of a zone (RFC 8976, section 2.2).
+
+    serial: The serial number of the zone.
+    scheme: How the records are collated.
+    hash_algorithm: The hash algorithm.
+    digest: The digest.
+    """
 
     serial: U32
     scheme: U8
@@ -366,8 +667,12 @@ class ZONEMD(Data, code=63):
 
 @dataclass(frozen=True)
 class SVCB(Data, code=64):
-    """How to reach a service (RFC 9460, section 2.2). The parameters are pairs of a key and its value, in ascending
-    order."""
+    """How to reach a service (RFC 9460, section 2.2).
+
+    priority: 0 for an alias. Of others, lower values are preferred.
+    target: The host, or the root for the owner itself.
+    params: The parameters, each a key and its value, in ascending order of the keys.
+    """
 
     priority: U16
     target: Name
@@ -382,172 +687,14 @@ class HTTPS(SVCB, code=65):
 
 
 @dataclass(frozen=True)
-class EUI48(Data, code=108):
-    """An EUI-48 address, as a number (RFC 7043, section 3)."""
-
-    eui: U48
-
-
-@dataclass(frozen=True)
-class EUI64(Data, code=109):
-    """An EUI-64 address, as a number (RFC 7043, section 4)."""
-
-    eui: U64
-
-
-@dataclass(frozen=True)
-class URI(Data, code=256):
-    """The URI of a service (RFC 7553, section 4)."""
-
-    priority: U16
-    weight: U16
-    target: Rest
-
-
-@dataclass(frozen=True)
-class CAA(Data, code=257):
-    """The authorities that may issue certificates for a domain (RFC 8659, section 4.1)."""
-
-    flags: U8
-    tag: String
-    value: Rest
-
-
-@dataclass(frozen=True)
-class WKS(Data, code=11):
-    """The services of a host by their ports, which is obsolete (RFC 1035, section 3.4.2)."""
-
-    address: IPv4Address
-    protocol: U8
-    bitmap: Rest
-
-    if TYPE_CHECKING:
-        def __init__(self, address: IPv4Like, protocol: U8, bitmap: Rest) -> None: ...
-
-
-@dataclass(frozen=True)
-class X25(Data, code=19):
-    """An address of X.25 (RFC 1183, section 3.1)."""
-
-    address: String
-
-
-class ISDN(TXT, code=20):
-    """An address of ISDN, and a subaddress if there is one (RFC 1183, section 3.2)."""
-
-
-class RT(MX, code=21):
-    """A host that routes to another one (RFC 1183, section 3.3)."""
-
-
-@dataclass(frozen=True)
-class NSAP(Data, code=22):
-    """An address of OSI (RFC 1706, section 5)."""
-
-    address: Rest
-
-
-class NSAP_PTR(_Target, code=23):
-    """The name of an address of OSI (RFC 1706, section 6)."""
-
-
-@dataclass(frozen=True)
-class PX(Data, code=26):
-    """A mapping between mail addresses and those of X.400 (RFC 2163, section 4)."""
-
-    preference: U16
-    map822: Name
-    mapx400: Name
-
-    if TYPE_CHECKING:
-        def __init__(self, preference: U16, map822: NameLike, mapx400: NameLike) -> None: ...
-
-
-@dataclass(frozen=True)
-class GPOS(Data, code=27):
-    """Where a host is, in degrees and metres (RFC 1712, section 3)."""
-
-    longitude: String
-    latitude: String
-    altitude: String
-
-
-@dataclass(frozen=True)
-class NXT(Data, code=30):
-    """The next name in a zone and the types at this name, in an old form (RFC 2535, section 5.2)."""
-
-    next: Name
-    bitmap: Rest
-
-    if TYPE_CHECKING:
-        def __init__(self, next: NameLike, bitmap: Rest) -> None: ...
-
-
-@dataclass(frozen=True)
-class LOC(Data, code=29):
-    """A location: 16 octets if the first, the version, is 0 (RFC 1876, section 2)."""
-
-    location: Shaped
-
-
-@dataclass(frozen=True)
-class APL(Data, code=42):
-    """Address prefixes: of each the family, the length in bits, whether it is negated, and the octets (RFC 3123)."""
-
-    prefixes: Prefixes
-
-
-@dataclass(frozen=True)
-class IPSECKEY(Data, code=45):
-    """A gateway and its key for IPsec (RFC 4025). `gateway` is its type, the algorithm, and the gateway itself."""
-
-    precedence: U8
-    gateway: Shaped
-    public_key: Rest
-
-
-@dataclass(frozen=True)
-class HIP(Data, code=55):
-    """The identity of a host, and its rendezvous servers (RFC 8005, section 5).
-
-    `identity` is the length of the tag, the algorithm of the key, its length, the tag and the key."""
-
-    identity: Shaped
-    servers: WholeNames
-
-    if TYPE_CHECKING:
-        def __init__(self, identity: Shaped, servers: Iterable[NameLike]) -> None: ...
-
-
-@dataclass(frozen=True)
-class DHCID(Data, code=49):
-    """Which client of DHCP owns a name (RFC 4701, section 3.1)."""
-
-    identifier: Rest
-
-
-class NINFO(TXT, code=56):
-    """The state of a zone, by the registry's template."""
-
-
-class RKEY(DNSKEY, code=57):
-    """A key for the encryption of NAPTR records, by the registry's template."""
-
-
-@dataclass(frozen=True)
-class TALINK(Data, code=58):
-    """The links of a chain of trust anchors, by the registry's template."""
-
-    previous: Name
-    next: Name
-
-    if TYPE_CHECKING:
-        def __init__(self, previous: NameLike, next: NameLike) -> None: ...
-
-
-@dataclass(frozen=True)
 class DSYNC(Data, code=66):
-    """Where to send notifications about a delegation (RFC 9859, section 2.1)."""
+    """Where to send notifications about a delegation (RFC 9859, section 2.1).
+
+    notified_type: The type that a notification is about.
+    scheme: How to notify.
+    port: The port.
+    target: The host.
+    """
 
     notified_type: RecordType
     scheme: U8
@@ -560,21 +707,25 @@ class DSYNC(Data, code=66):
 
 @dataclass(frozen=True)
 class HHIT(Data, code=67):
-    """The identity of a host in a hierarchy (RFC 9886)."""
+    """The identity of a host, in a hierarchy (RFC 9886, section 5.1)."""
 
     identity: Rest
 
 
 @dataclass(frozen=True)
 class BRID(Data, code=68):
-    """The identity of an unmanned aircraft (RFC 9886)."""
+    """The identity of an unmanned aircraft (RFC 9886, section 5.2)."""
 
     identity: Rest
 
 
 @dataclass(frozen=True)
 class NID(Data, code=104):
-    """The identifier of a node (RFC 6742, section 2.1)."""
+    """The identifier of a node (RFC 6742, section 2.1.1).
+
+    preference: Lower values are preferred.
+    node_id: The identifier.
+    """
 
     preference: U16
     node_id: U64
@@ -582,7 +733,11 @@ class NID(Data, code=104):
 
 @dataclass(frozen=True)
 class L32(Data, code=105):
-    """A locator of 32 bits (RFC 6742, section 2.2)."""
+    """A locator of 32 bits (RFC 6742, section 2.2.1).
+
+    preference: Lower values are preferred.
+    locator: The locator.
+    """
 
     preference: U16
     locator: IPv4Address
@@ -593,7 +748,11 @@ class L32(Data, code=105):
 
 @dataclass(frozen=True)
 class L64(Data, code=106):
-    """A locator of 64 bits (RFC 6742, section 2.3)."""
+    """A locator of 64 bits (RFC 6742, section 2.3.1).
+
+    preference: Lower values are preferred.
+    locator: The locator.
+    """
 
     preference: U16
     locator: U64
@@ -601,7 +760,11 @@ class L64(Data, code=106):
 
 @dataclass(frozen=True)
 class LP(Data, code=107):
-    """The name of locators (RFC 6742, section 2.4)."""
+    """The name of locators (RFC 6742, section 2.4.1).
+
+    preference: Lower values are preferred.
+    fqdn: The name.
+    """
 
     preference: U16
     fqdn: Name
@@ -611,8 +774,37 @@ class LP(Data, code=107):
 
 
 @dataclass(frozen=True)
+class EUI48(Data, code=108):
+    """An EUI-48 address (RFC 7043, section 3.1).
+
+    eui: A number of 48 bits.
+    """
+
+    eui: U48
+
+
+@dataclass(frozen=True)
+class EUI64(Data, code=109):
+    """An EUI-64 address (RFC 7043, section 4.1).
+
+    eui: A number of 64 bits.
+    """
+
+    eui: U64
+
+
+@dataclass(frozen=True)
 class TKEY(Data, code=249):
-    """The making of a key for TSIG (RFC 2930, section 2)."""
+    """The making of a key for TSIG (RFC 2930, section 2).
+
+    algorithm: The algorithm.
+    inception: When the key begins to be valid, in seconds since 1970, a serial number (RFC 1982).
+    expiration: When it ends.
+    mode: How the key is made.
+    error: An error, or 0.
+    key: The key, or what it is made from.
+    other: Other data.
+    """
 
     algorithm: Name
     inception: Time
@@ -624,14 +816,22 @@ class TKEY(Data, code=249):
 
     if TYPE_CHECKING:
         def __init__(
-            self, algorithm: NameLike, inception: Time, expiration: Time, mode: U16, error: U16, key: Long,
-            other: Long
+            self, algorithm: NameLike, inception: Time, expiration: Time, mode: U16, error: U16, key: Long, other: Long
         ) -> None: ...
 
 
 @dataclass(frozen=True)
 class TSIG(Data, code=250):
-    """The signature of a message (RFC 8945, section 4.2)."""
+    """The signature of a message with a shared key (RFC 8945, section 4.2).
+
+    algorithm: The algorithm.
+    time_signed: The time, in seconds since 1970.
+    fudge: The seconds that clocks may differ.
+    mac: The signature.
+    original_id: The identifier of the message that was signed.
+    error: An error, or 0.
+    other: Other data.
+    """
 
     algorithm: Name
     time_signed: U48
@@ -643,26 +843,49 @@ class TSIG(Data, code=250):
 
     if TYPE_CHECKING:
         def __init__(
-            self, algorithm: NameLike, time_signed: U48, fudge: U16, mac: Long, original_id: U16, error:
-            U16, other: Long
+            self, algorithm: NameLike, time_signed: U48, fudge: U16, mac: Long, original_id: U16, error: U16,
+            other: Long
         ) -> None: ...
 
 
 @dataclass(frozen=True)
-class AMTRELAY(Data, code=260):
-    """A relay for multicast (RFC 8777, section 4.2). `relay` is a bit and 7 bits of its type, and the relay."""
+class URI(Data, code=256):
+    """The URI of a service (RFC 7553, section 4.2).
 
-    precedence: U8
-    relay: Shaped
+    priority: Lower values are tried first.
+    weight: How often the URI is chosen among those of the same priority.
+    target: The URI.
+    """
+
+    priority: U16
+    weight: U16
+    target: Rest
 
 
-class AVC(TXT, code=258):
-    """What is known of an application, by the registry's template."""
+@dataclass(frozen=True)
+class CAA(Data, code=257):
+    """The authorities that may issue certificates for a domain (RFC 8659, section 4.1).
+
+    flags: 128 if an authority that does not know the tag must not issue.
+    tag: The tag of the property.
+    value: The value of the property.
+    """
+
+    flags: U8
+    tag: String
+    value: Rest
 
 
 @dataclass(frozen=True)
 class DOA(Data, code=259):
-    """A digital object, by the registry's template."""
+    """A digital object (the template DOA of IANA's registry).
+
+    enterprise: The number of the enterprise.
+    object_type: The type of the object.
+    location: Where the object is.
+    media_type: Its media type.
+    data: The object, or where it is.
+    """
 
     enterprise: U32
     object_type: U32
@@ -671,28 +894,23 @@ class DOA(Data, code=259):
     data: Rest
 
 
-class RESINFO(TXT, code=261):
-    """What a resolver says of itself (RFC 9606, section 4)."""
+@dataclass(frozen=True)
+class AMTRELAY(Data, code=260):
+    """A relay for multicast (RFC 8777, section 4.2).
 
+    precedence: Lower values are preferred.
+    relay: A bit and 7 bits of the type of the relay, and the relay.
+    """
 
-class WALLET(TXT, code=262):
-    """A public address of a wallet, by the registry's template."""
-
-
-class CLA(TXT, code=263):
-    """What an authority claims, by the registry's template."""
+    precedence: U8
+    relay: Shaped
 
 
 @dataclass(frozen=True)
 class IPN(Data, code=264):
-    """The number of a node of the Bundle Protocol, by the registry's template."""
+    """A node of the Bundle Protocol (the template IPN of IANA's registry).
+
+    node: The number of the node.
+    """
 
     node: U64
-
-
-class TA(DS, code=32768):
-    """The digest of a key that is trusted, by the registry's template."""
-
-
-class DLV(DS, code=32769):
-    """The digest of a key of a zone that is looked up aside (RFC 4431, section 2)."""

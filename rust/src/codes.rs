@@ -54,65 +54,66 @@ macro_rules! constants {
 
 constants! {
     RecordType {
+        // made by tools/types from crates/dnw_data/specs/Table.antt
         /// An IPv4 address (RFC 1035, section 3.4.1).
         A = 1,
         /// A name server of a zone (RFC 1035, section 3.3.11).
         NS = 2,
-        /// A host for mail to a domain, obsolete (RFC 1035, section 3.3.4).
+        /// A host that takes mail, which is obsolete (RFC 1035, section 3.3.4).
         MD = 3,
-        /// A host that forwards mail, obsolete (RFC 1035, section 3.3.5).
+        /// A host that forwards mail, which is obsolete (RFC 1035, section 3.3.5).
         MF = 4,
         /// The canonical name of an alias (RFC 1035, section 3.3.1).
         CNAME = 5,
         /// The start of a zone of authority (RFC 1035, section 3.3.13).
         SOA = 6,
-        /// The host of a mailbox, obsolete (RFC 1035, section 3.3.3).
+        /// A host of a mailbox (RFC 1035, section 3.3.3).
         MB = 7,
-        /// A member of a mail group, obsolete (RFC 1035, section 3.3.6).
+        /// A member of a group of mailboxes (RFC 1035, section 3.3.6).
         MG = 8,
-        /// A new name of a mailbox, obsolete (RFC 1035, section 3.3.8).
+        /// The new name of a mailbox (RFC 1035, section 3.3.8).
         MR = 9,
         /// Any data (RFC 1035, section 3.3.10).
         NULL = 10,
-        /// The well-known services of a host (RFC 1035, section 3.4.2).
+        /// The services of a host by their ports, which is obsolete (RFC 1035, section 3.4.2).
         WKS = 11,
         /// A pointer to another name (RFC 1035, section 3.3.12).
         PTR = 12,
         /// The CPU and the operating system of a host (RFC 1035, section 3.3.2).
         HINFO = 13,
-        /// Who is responsible for a mailbox or mail list (RFC 1035, section 3.3.7).
+        /// A mailbox for requests and one for errors (RFC 1035, section 3.3.7).
         MINFO = 14,
         /// A mail server for a domain (RFC 1035, section 3.3.9).
         MX = 15,
-        /// Text (RFC 1035, section 3.3.14).
+        /// Texts (RFC 1035, section 3.3.14).
         TXT = 16,
-        /// A responsible person (RFC 1183, section 2.2).
+        /// The person responsible for a name, and the owner of a TXT record (RFC 1183, section 2.2).
         RP = 17,
-        /// A server of AFS or of DCE (RFC 1183, section 1).
+        /// A server of an AFS or DCE cell (RFC 1183, section 1).
         AFSDB = 18,
-        /// An address in X.25 (RFC 1183, section 3.1).
+        /// An address of X.25 (RFC 1183, section 3.1).
         X25 = 19,
-        /// A number in ISDN (RFC 1183, section 3.2).
+        /// An address of ISDN, and a subaddress if there is one (RFC 1183, section 3.2).
         ISDN = 20,
-        /// A host that routes to another (RFC 1183, section 3.3).
+        /// A host that routes to another one (RFC 1183, section 3.3).
         RT = 21,
-        /// An address in NSAP (RFC 1706, section 5).
+        /// An address of OSI (RFC 1706, section 5).
         NSAP = 22,
-        /// The name of an NSAP address (RFC 1706, section 6).
+        /// The name of an address of OSI (RFC 1706, section 6).
         NSAP_PTR = 23,
-        /// A signature of records (RFC 2535, section 4.1) or of a message (RFC 2931).
+        /// A signature of records (RFC 2535, section 4.1) or, if it covers the type 0, of a message (RFC 2931).
         SIG = 24,
-        /// A key of a host (RFC 2535 and RFC 2930).
+        /// A key of a host (RFC 2535, section 3.1).
         KEY = 25,
-        /// Names of X.400 and of mail (RFC 2163, section 4).
+        /// A mapping between mail addresses and those of X.400 (RFC 2163, section 4).
         PX = 26,
-        /// Where a host is, in degrees (RFC 1712).
+        /// Where a host is, in degrees and metres (RFC 1712, section 3).
         GPOS = 27,
-        /// An IPv6 address (RFC 3596, section 2.1).
+        /// An IPv6 address (RFC 3596, section 2.2).
         AAAA = 28,
-        /// Where a host is (RFC 1876).
+        /// A location: 16 octets if the first, the version, is 0 (RFC 1876, section 2).
         LOC = 29,
-        /// The next name of a zone, obsolete (RFC 2535, section 5).
+        /// The next name in a zone and the types at this name, in an old form (RFC 2535, section 5.2).
         NXT = 30,
         /// An identifier of Nimrod (IANA's registry).
         EID = 31,
@@ -122,73 +123,73 @@ constants! {
         SRV = 33,
         /// An address in ATM (IANA's registry).
         ATMA = 34,
-        /// A rule that rewrites a name (RFC 3403).
+        /// A rule that rewrites a name (RFC 3403, section 4.1).
         NAPTR = 35,
-        /// A key exchanger (RFC 2230).
+        /// A host that exchanges keys (RFC 2230, section 3).
         KX = 36,
-        /// A certificate (RFC 4398).
+        /// A certificate (RFC 4398, section 2).
         CERT = 37,
-        /// An IPv6 address in parts, historic (RFC 2874).
+        /// An IPv6 address in parts, historic (RFC 2874, section 3.1.1).
         A6 = 38,
-        /// The name that a subtree is an alias of (RFC 6672).
+        /// The name that a subtree is an alias of (RFC 6672, section 2.1).
         DNAME = 39,
         /// A kitchen sink (IANA's registry).
         SINK = 40,
-        /// The EDNS fields of a message (RFC 6891).
+        /// The EDNS fields of a message (RFC 6891, section 6.1.1).
         OPT = 41,
-        /// Prefixes of addresses (RFC 3123).
+        /// Address prefixes (RFC 3123, section 4).
         APL = 42,
-        /// The digest of a key of a child zone (RFC 4034, section 5).
+        /// The digest of a key of a child zone (RFC 4034, section 5.1).
         DS = 43,
-        /// The fingerprint of an SSH key (RFC 4255).
+        /// The fingerprint of an SSH key (RFC 4255, section 3.1).
         SSHFP = 44,
-        /// A key for IPsec (RFC 4025).
+        /// A gateway and its key for IPsec (RFC 4025, section 2.1).
         IPSECKEY = 45,
-        /// A signature of records (RFC 4034, section 3).
+        /// A signature of records (RFC 4034, section 3.1).
         RRSIG = 46,
-        /// The next name in a zone, and the types at this name (RFC 4034, section 4).
+        /// The next name in a zone, and the types at this name (RFC 4034, section 4.1).
         NSEC = 47,
-        /// A key of a zone (RFC 4034, section 2).
+        /// A key of a zone (RFC 4034, section 2.1).
         DNSKEY = 48,
-        /// Which DHCP client has a name (RFC 4701).
+        /// Which client of DHCP owns a name (RFC 4701, section 3.1).
         DHCID = 49,
-        /// As NSEC, with hashed names (RFC 5155, section 3).
+        /// The next hash in a zone, and the types at this name (RFC 5155, section 3.2).
         NSEC3 = 50,
-        /// How the names of a zone are hashed (RFC 5155, section 4).
+        /// How the names of a zone are hashed (RFC 5155, section 4.2).
         NSEC3PARAM = 51,
-        /// A certificate of a TLS server (RFC 6698).
+        /// A certificate of a TLS server (RFC 6698, section 2.1).
         TLSA = 52,
-        /// A certificate for mail (RFC 8162).
+        /// A certificate for mail (RFC 8162, section 2).
         SMIMEA = 53,
-        /// The keys of a host (RFC 8005).
+        /// The identity of a host, and its rendezvous servers (RFC 8005, section 5).
         HIP = 55,
-        /// The status of a zone (IANA's registry).
+        /// The state of a zone (the template NINFO of IANA's registry).
         NINFO = 56,
-        /// A key to encrypt with (IANA's registry).
+        /// A key for the encryption of NAPTR records (the template RKEY of IANA's registry).
         RKEY = 57,
-        /// A link of trust anchors (IANA's registry).
+        /// The links of a chain of trust anchors (the template TALINK of IANA's registry).
         TALINK = 58,
-        /// The child's copy of a DS (RFC 7344).
+        /// The child's copy of a DS (RFC 7344, section 3.1).
         CDS = 59,
-        /// The child's copy of a DNSKEY (RFC 7344).
+        /// The child's copy of a DNSKEY (RFC 7344, section 3.2).
         CDNSKEY = 60,
-        /// An OpenPGP key (RFC 7929).
+        /// An OpenPGP key (RFC 7929, section 2.1).
         OPENPGPKEY = 61,
-        /// The types that a parent zone may copy from its child (RFC 7477).
+        /// The types that a parent zone may copy from its child (RFC 7477, section 2.1.1).
         CSYNC = 62,
-        /// The digest of a zone (RFC 8976).
+        /// The digest of a zone (RFC 8976, section 2.2).
         ZONEMD = 63,
-        /// How to reach a service (RFC 9460).
+        /// How to reach a service (RFC 9460, section 2.2).
         SVCB = 64,
-        /// How to reach a service over HTTPS (RFC 9460).
+        /// How to reach a service over HTTPS (RFC 9460, section 9).
         HTTPS = 65,
-        /// Where a child sends notifications (RFC 9859).
+        /// Where to send notifications about a delegation (RFC 9859, section 2.1).
         DSYNC = 66,
-        /// The identity of a host, in a hierarchy (RFC 9886).
+        /// The identity of a host, in a hierarchy (RFC 9886, section 5.1).
         HHIT = 67,
-        /// The identity of an unmanned aircraft (RFC 9886).
+        /// The identity of an unmanned aircraft (RFC 9886, section 5.2).
         BRID = 68,
-        /// Hosts that may send mail, obsolete (RFC 7208, section 3.1).
+        /// SPF texts (RFC 4408, section 3.1.1), now in TXT records (RFC 7208, section 3.1).
         SPF = 99,
         /// Reserved by IANA.
         UINFO = 100,
@@ -198,23 +199,23 @@ constants! {
         GID = 102,
         /// Reserved by IANA.
         UNSPEC = 103,
-        /// The identifier of a node (RFC 6742, section 2.1).
+        /// The identifier of a node (RFC 6742, section 2.1.1).
         NID = 104,
-        /// A locator of 32 bits (RFC 6742, section 2.2).
+        /// A locator of 32 bits (RFC 6742, section 2.2.1).
         L32 = 105,
-        /// A locator of 64 bits (RFC 6742, section 2.3).
+        /// A locator of 64 bits (RFC 6742, section 2.3.1).
         L64 = 106,
-        /// The name of a subnetwork (RFC 6742, section 2.4).
+        /// The name of locators (RFC 6742, section 2.4.1).
         LP = 107,
-        /// An EUI-48 address (RFC 7043, section 3).
+        /// An EUI-48 address (RFC 7043, section 3.1).
         EUI48 = 108,
-        /// An EUI-64 address (RFC 7043, section 4).
+        /// An EUI-64 address (RFC 7043, section 4.1).
         EUI64 = 109,
         /// A name that does not exist, in bitmaps (RFC 9824).
         NXNAME = 128,
-        /// A shared key, in messages (RFC 2930).
+        /// The making of a key for TSIG (RFC 2930, section 2).
         TKEY = 249,
-        /// A signature of a message with a shared key (RFC 8945).
+        /// The signature of a message with a shared key (RFC 8945, section 4.2).
         TSIG = 250,
         /// A transfer of the changes of a zone, in a question (RFC 1995).
         IXFR = 251,
@@ -226,36 +227,39 @@ constants! {
         MAILA = 254,
         /// Any type, in a question (RFC 1035, section 3.2.3).
         ANY = 255,
-        /// A URI (RFC 7553).
+        /// The URI of a service (RFC 7553, section 4.2).
         URI = 256,
-        /// The authorities that may issue certificates for a domain (RFC 8659).
+        /// The authorities that may issue certificates for a domain (RFC 8659, section 4.1).
         CAA = 257,
-        /// What an application shows and controls (IANA's registry).
+        /// What is known of an application (the template AVC of IANA's registry).
         AVC = 258,
-        /// A digital object (IANA's registry).
+        /// A digital object (the template DOA of IANA's registry).
         DOA = 259,
-        /// A relay for multicast (RFC 8777).
+        /// A relay for multicast (RFC 8777, section 4.2).
         AMTRELAY = 260,
-        /// What a resolver can do (RFC 9606).
+        /// What a resolver says of itself (RFC 9606, section 4).
         RESINFO = 261,
-        /// The address of a wallet (IANA's registry).
+        /// A public address of a wallet (the template WALLET of IANA's registry).
         WALLET = 262,
-        /// An adapter of the Bundle Protocol (IANA's registry).
+        /// The convergence layer adapters of a node of the Bundle Protocol (the template CLA of IANA's registry).
         CLA = 263,
-        /// A node of the Bundle Protocol (IANA's registry).
+        /// A node of the Bundle Protocol (the template IPN of IANA's registry).
         IPN = 264,
-        /// An authority of trust (IANA's registry).
+        /// The digest of a key that is trusted (the reference of IANA's registry, as DS).
         TA = 32768,
-        /// The digest of a key, for validators, obsolete (RFC 4431).
+        /// The digest of a key of a zone that is looked up aside (RFC 4431, section 2).
         DLV = 32769,
+        // made until here
     }
 }
 
 impl RecordType {
+    // made by tools/types from crates/dnw_data/specs/Table.antt
     /// Code 0, which no record has as its type (RFC 6895, section 3.1).
     pub const ZERO: RecordType = RecordType(0);
     /// An alias at the top of a zone (draft-ietf-dnsop-aname). Its code was never assigned.
     pub const ANAME: RecordType = RecordType(65305);
+    // made until here
 }
 
 constants! {

@@ -19,7 +19,7 @@ use core::fmt;
 
 mod table;
 
-pub(crate) use table::{each_struct, each_variant};
+pub(crate) use table::{each_own_struct, each_struct, each_variant};
 
 /// What a value of a kind is shown by: octets by themselves are shown as text.
 macro_rules! shown {
@@ -293,17 +293,6 @@ impl<'a> TryFrom<RData<'a>> for Ipv6Addr {
     }
 }
 
-/// Passes the structs that are the data of the type of their name to a macro.
-macro_rules! each_own_struct {
-    ($then:ident) => {
-        $then! {
-            WKS<'a>, PX<'a>, GPOS<'a>, NXT<'a>, IPSECKEY<'a>, HIP<'a>, TALINK<'a>, DSYNC<'a>, L32, NID, L64, TKEY<'a>, TSIG<'a>,
-            DOA<'a>, AMTRELAY<'a>, SOA<'a>, HINFO<'a>, MX<'a>, SRV<'a>, NAPTR<'a>, CERT<'a>, DS<'a>, SSHFP<'a>, RRSIG<'a>,
-            NSEC<'a>, DNSKEY<'a>, NSEC3<'a>, NSEC3PARAM<'a>, TLSA<'a>, CSYNC, ZONEMD<'a>, SVCB<'a>, URI<'a>, CAA<'a>,
-        }
-    };
-}
-
 macro_rules! from_struct {
     ($($name:ident $(<$life:lifetime>)?,)*) => {$(
         impl<'a> From<$name $(<$life>)?> for RData<'a> {
@@ -327,5 +316,3 @@ macro_rules! from_struct {
 }
 
 each_own_struct!(from_struct);
-
-pub(crate) use each_own_struct;

@@ -1,0 +1,122 @@
+"""The classes of Python for the data of types, and the constants of types."""
+
+from __future__ import annotations
+
+import textwrap
+from typing import Dict, Iterator, List, Union
+
+from .bound import bound, check_shared
+from .listed import Type, TypeList
+from .outputs import Parts, Whole, filled, lines
+
+CODES, SHOWN, DATA = (f"python/dns_names_wire/{it}.py" for it in ("_codes", "__init__", "_rdata"))
+WIDTH = 120
+HEAD = '''"""The data of records: a frozen dataclass for each type."""
+
+from dataclasses import dataclass
+from ipaddress import IPv4Address, IPv6Address
+from typing import TYPE_CHECKING, Iterable
+
+from ._codes import RecordType
+from ._data import (
+    U8,
+    U16,
+    U32,
+    U48,
+    U64,
+    Data,
+    IPv4Like,
+    IPv6Like,
+    Long,
+    NameLike,
+    Params,
+    Prefixes,
+    Rest,
+    Shaped,
+    String,
+    Strings,
+    Time,
+    TypeLike,
+    TypesLike,
+    WholeNames,
+)
+from ._names import Name
+from ._types import TypeSet
+
+# What a class takes is written for type checkers alone: the dataclass makes __init__, and `Data` takes each field as its
+# kind says.
+
+
+@dataclass(frozen=True)
+class _Target(Data):
+    target: Name
+
+    if TYPE_CHECKING:
+        def __init__(self, target: NameLike) -> None: ...
+'''
+
+
+def docstring(its_class: Type) -> Iterator[str]:
+    """What a class says: the sentence of its type, and what its own fields say."""
+    said = [it for it in its_class.fields if it.words and not its_class.like]
+    text = textwrap.wrap(f"{its_class.about}.", WIDTH - 10, break_on_hyphens=False)
+    if not said and len(text) == 1:
+        yield f'    """{text[0]}"""'
+        return
+    yield from (f"    {line}" for line in ['"""' + text[0], *text[1:]])
+    if said:
+        yield ""
+    for it in said:
+        yield from textwrap.wrap(f"{it.name}: {it.words}", WIDTH, initial_indent=" " * 4, subsequent_indent=" " * 8, break_on_hyphens=False)
+    yield '    """'
+
+
+def init(it: Type) -> Iterator[str]:
+    """What the constructor takes, for type checkers, if that is more than the fields have."""
+    kinds = [bound(kind) for kind in it.kinds]
+    if not any(kind.taken for kind in kinds):
+        return
+    taken = ["self", *(f"{own.name}: {kind.taken or kind.python}" for own, kind in zip(it.fields, kinds))]
+    head = f"        def __init__({', '.join(taken)}) -> None: ..."
+    yield from ("", "    if TYPE_CHECKING:")
+    if len(head) <= WIDTH:
+        yield head
+    else:
+        yield from ("        def __init__(", *filled(taken, 12, WIDTH, last="").splitlines(), "        ) -> None: ...")
+
+
+def class_lines(it: Type) -> Iterator[str]:
+    is_target = [own.name for own in it.fields] == ["target"] and not it.like
+    base = it.like or ("_Target" if is_target else "Data")
+    yield from ("", "")
+    if base == "Data":
+        yield "@dataclass(frozen=True)"
+    yield f"class {it.identifier}({base}, code={it.code}):"
+    yield from docstring(it)
+    if base == "Data":
+        yield ""
+        yield from (f"    {own.name}: {bound(kind).python}" for own, kind in zip(it.fields, it.kinds))
+        yield from init(it)
+
+
+def in_order(its: TypeList) -> List[Type]:
+    """The types with a class, by their codes, each before those that share its fields."""
+    sharing: Dict[str, List[Type]] = {}
+    for it in its.with_class:
+        sharing.setdefault(it.like or it.name, []).append(it)
+    for name, group in sharing.items():
+        for it in group:
+            check_shared(its, it, its.named(name))
+    firsts = [it for it in its.with_class if not it.like]
+    return [it for own in firsts for it in [own, *(other for other in sharing[own.name] if other is not own)]]
+
+
+def outputs(its: TypeList) -> List[Union[Parts, Whole]]:
+    constants = [f'    {it.identifier}: ClassVar["RecordType"]' for it in its.types]
+    shown = filled(sorted(f"{it.identifier} as {it.identifier}" for it in its.with_class), 4, WIDTH - 4)
+    classes = [line for it in in_order(its) for line in class_lines(it)]
+    return [
+        Parts(CODES, [lines(constants)]),
+        Parts(SHOWN, [f"from ._rdata import (\n{shown})  # fmt: skip\n"]),
+        Whole(DATA, HEAD + lines(classes)),
+    ]
