@@ -337,7 +337,10 @@ def _set_constants(kind: Type[_Code]) -> None:
             setattr(kind, name, kind.from_text(name.replace("_", "-")))
 
 
-RecordType.ZERO, RecordType.ANAME = RecordType(0), RecordType(65305)
+# made by tools/types from crates/dnw_data/specs/Table.antt
+RecordType.ZERO = RecordType(0)
+RecordType.ANAME = RecordType(65305)
+# made until here
 _set_constants(RecordType)
 _set_constants(RecordClass)
 _set_constants(OpCode)

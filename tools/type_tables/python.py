@@ -113,10 +113,11 @@ def in_order(its: TypeList) -> List[Type]:
 
 def outputs(its: TypeList) -> List[Union[Parts, Whole]]:
     constants = [f'    {it.identifier}: ClassVar["RecordType"]' for it in its.types]
+    unnamed = [f"RecordType.{it.identifier} = RecordType({it.code})" for it in its.types if not it.is_named]
     shown = filled(sorted(f"{it.identifier} as {it.identifier}" for it in its.with_class), 4, WIDTH - 4)
     classes = [line for it in in_order(its) for line in class_lines(it)]
     return [
-        Parts(CODES, [lines(constants)]),
+        Parts(CODES, [lines(constants), lines(unnamed)]),
         Parts(SHOWN, [f"from ._rdata import (\n{shown})  # fmt: skip\n"]),
         Whole(DATA, HEAD + lines(classes)),
     ]
