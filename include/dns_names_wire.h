@@ -1195,7 +1195,7 @@ enum dnw_type {
     DNW_TYPE_EUI64 = 109,     /* An EUI-64 address (RFC 7043, section 4.1) */
     DNW_TYPE_NXNAME = 128,    /* A name that does not exist, in bitmaps (RFC 9824) */
     DNW_TYPE_TKEY = 249,      /* The making of a key for TSIG (RFC 2930, section 2) */
-    DNW_TYPE_TSIG = 250,      /* The signature of a message with a shared key (RFC 8945, section 4.2) */
+    DNW_TYPE_TSIG = 250,      /* The signature of a message (RFC 8945, section 4.2) */
     DNW_TYPE_IXFR = 251,      /* A transfer of the changes of a zone, in a question (RFC 1995) */
     DNW_TYPE_AXFR = 252,      /* A transfer of a whole zone, in a question (RFC 5936) */
     DNW_TYPE_MAILB = 253,     /* Records of mailboxes, in a question, obsolete (RFC 1035, section 3.2.3) */

@@ -822,7 +822,7 @@ class TKEY(Data, code=249):
 
 @dataclass(frozen=True)
 class TSIG(Data, code=250):
-    """The signature of a message with a shared key (RFC 8945, section 4.2).
+    """The signature of a message (RFC 8945, section 4.2).
 
     algorithm: The algorithm.
     time_signed: The time, in seconds since 1970.

@@ -215,7 +215,7 @@ constants! {
         NXNAME = 128,
         /// The making of a key for TSIG (RFC 2930, section 2).
         TKEY = 249,
-        /// The signature of a message with a shared key (RFC 8945, section 4.2).
+        /// The signature of a message (RFC 8945, section 4.2).
         TSIG = 250,
         /// A transfer of the changes of a zone, in a question (RFC 1995).
         IXFR = 251,

@@ -373,7 +373,7 @@ late_rows =
     --   key: The key, or what it is made from.
     --   other: Other data.
     ∷ row 249 (plain ∷ Time ∷ Time ∷ U16 ∷ U16 ∷ long ∷ long ∷ [])
-    -- TSIG: The signature of a message with a shared key (RFC 8945, section 4.2)
+    -- TSIG: The signature of a message (RFC 8945, section 4.2)
     --   algorithm: The algorithm.
     --   time_signed: The time, in seconds since 1970.
     --   fudge: The seconds that clocks may differ.

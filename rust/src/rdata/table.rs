@@ -343,7 +343,7 @@ macro_rules! each_struct {
                 other: &'a [u8] = long,
             }
 
-            /// The signature of a message with a shared key (RFC 8945, section 4.2).
+            /// The signature of a message (RFC 8945, section 4.2).
             TSIG<'a> {
                 /// The algorithm.
                 algorithm: NameRef<'a> = name,
@@ -559,7 +559,7 @@ macro_rules! each_variant {
                 LP = 107: MX<'a>,
                 /// The making of a key for TSIG (RFC 2930, section 2).
                 TKEY = 249: TKEY<'a>,
-                /// The signature of a message with a shared key (RFC 8945, section 4.2).
+                /// The signature of a message (RFC 8945, section 4.2).
                 TSIG = 250: TSIG<'a>,
                 /// The URI of a service (RFC 7553, section 4.2).
                 URI = 256: URI<'a>,
