@@ -74,7 +74,7 @@ pub use Rattle.dnw_write.specs.EmittingLaws.{frame, fails_unchanged}
 pub use Rattle.dnw_write.specs.EmittedName.{EmitsName, EmitsLabels, pointer_to}
 pub use Rattle.dnw_write.specs.NameFrames.{frame_name}
 pub use Rattle.dnw_write.specs.Guards.{Guards, guarded, former}
-pub use Rattle.dnw_write.specs.Checkpoints.{CheckpointValue, checkpoint_of, rewound, RewindingUndoes}
+pub use Rattle.dnw_write.specs.Marks.{MarkValue, mark_of, rewound, RewindingUndoes}
 pub use Rattle.dnw_write_suffixes.specs.Candidates.{Finds, FindsUsable, suffixes}
 pub use Rattle.dnw_write.specs.EncoderLaws.{NameComesBack, NameIsRead, NamesTakeNoMore, PointersSave, FramesFollow, ItemsKeepFrame}
 pub use Rattle.dnw_write.specs.EncoderLaws.{FillsTakeNoMemory, FillsStayBounded, ItemsStayBounded, NamesStayBounded, PlacesStayBounded, WritesStayBounded}
@@ -83,13 +83,13 @@ pub use Rattle.dnw_write.specs.CandidateLaws.{KeepsPreceding, NewPrecede, Writes
 pub use Rattle.dnw_write.specs.CandidateLaws.{StoresPrecede, TrimsPrecede, RewindsPrecede, ItemsPrecede, ItemPrecedes}
 -- Resource records.
 pub use Rattle.dnw_record.specs.Records.{RecordValue, RecordAt, record_of, TakesRecord, FailsRecord, HasDataName, FailsDataName, data_octets}
-pub use Rattle.dnw_record.specs.declared.wire_record.WireRecord.{WireRecord}
-pub use Rattle.dnw_record.specs.WrittenRecords.{EmitsData, EmitsRecord, NumbersFit}
-pub use Rattle.dnw_record.specs.RecordFrames.{frame_data, frame_record}
-pub use Rattle.dnw_record.specs.RecordLaws.{RefusedRecordsUndo, RefusedDataUndo}
-pub use Rattle.dnw_record.specs.RecordLaws.{PartPrecedes, PartsPrecede, CountedPrecede, DataPrecede, RecordsPrecede}
-pub use Rattle.dnw_record.specs.RecordLaws.{KeepsBounded, PartStaysBounded, PartsStayBounded, CountedStayBounded, DataStayBounded, RecordsStayBounded}
-pub use Rattle.dnw_record.specs.Parts.{WirePart, EmitsWirePart, EmitsWireParts, EmitsCounted, HasTextOfSize, parts_size, wire_size}
+pub use Rattle.dnw_write_script.specs.declared.wire_record.WireRecord.{WireRecord}
+pub use Rattle.dnw_write_script.specs.WrittenRecords.{EmitsData, EmitsRecord, NumbersFit}
+pub use Rattle.dnw_write_script.specs.RecordFrames.{frame_data, frame_record}
+pub use Rattle.dnw_write_script.specs.RecordLaws.{RefusedRecordsUndo, RefusedDataUndo}
+pub use Rattle.dnw_write_script.specs.RecordLaws.{PartPrecedes, PartsPrecede, CountedPrecede, DataPrecede, RecordsPrecede}
+pub use Rattle.dnw_write_script.specs.RecordLaws.{KeepsBounded, PartStaysBounded, PartsStayBounded, CountedStayBounded, DataStayBounded, RecordsStayBounded}
+pub use Rattle.dnw_write_script.specs.Parts.{WirePart, EmitsWirePart, EmitsWireParts, EmitsCounted, HasTextOfSize, parts_size, wire_size}
 -- The fields of the data of records.
 pub use Rattle.dnw_record.specs.RecordFields.{record_fields}
 -- Scripts.
@@ -206,13 +206,9 @@ pub use Rattle.dnw_record.specs.declared.from_fields.FromFieldsError.{FromFields
 pub use Rattle.dnw_record.specs.DataPieces.{ArePiecesOf, DataPiece, DataValue, HasPieces, IsData, IsDataOfType, data_kinds, kinds_of, octets_of, piece_octets}
 pub use Rattle.dnw_record.specs.DataCopies.{Copies, FailsToCopy, TakesPiece, TakesPieces, alone, data_start, kinds_at, record_kinds}
 pub use Rattle.dnw_record.specs.GivenFields.{AreFieldsOf, FailsGivenFields, IsFieldOf, front, front_of, given_kinds}
-pub use Rattle.dnw_record.specs.WireRecords.{HaveNameAndOthers, HaveNoName, IsOfWireRecord, SaysData, SaysRecord, wire_data_octets}
-pub use Rattle.dnw_record.specs.AnyRecords.{AnyNumbersFit, EmitsAnyRecord, EmitsCopyOf, EmitsRData, HasFields, IsCopyOf, encoding_of, mode_of, parts_of}
-pub use Rattle.dnw_record.specs.AnyRecordFrames.{frame_any_record, frame_copy}
-pub use Rattle.dnw_record.specs.AnyRecordLaws.{AnyRecordsAreRead, AnyRecordsFit, AnyRecordsPrecede, AnyRecordsStayBounded, CandidatesAreRead, DataHaveFields}
-pub use Rattle.dnw_record.specs.AnyRecordLaws.{NamesKeepRead, NewAreRead, PlainDataAreOctets, ReadsAs, RefusedAnyUndo, WholeDataAreOctets, WritesKeepRead}
-pub use Rattle.dnw_record.specs.AnyRecordLaws.{any_record_size, piece_value, piece_values, written_piece, written_pieces}
-pub use Rattle.dnw_record.specs.AnyRecordFrames.{frame_rdata}
+pub use Rattle.dnw_write_script.specs.WireRecords.{HaveNameAndOthers, HaveNoName, IsOfWireRecord, SaysData, SaysRecord, encoding_of, is_name, wire_data_octets}
+pub use Rattle.dnw_record.specs.OwnedRecords.{IsCopyOf, name_of}
+pub use Rattle.dnw_record.specs.PieceLaws.{DataHaveFields, piece_value, piece_values}
 -- the pointers that names in data follow
 pub use Rattle.dnw_record.specs.DataPointers.{FieldFollows, IsNoField, TakesAllPointers, TakesDataPointers, TakesPointers}
 pub use Rattle.dnw_message_read.specs.DataPointers.{records_of}
