@@ -195,10 +195,12 @@ fn is_like_internet(class: u16) -> bool
 fn is_internet_type(code: u16) -> bool
     ensures { result ≡ is_internet_type code }
 {
+    // made by tools/types from specs/Table.antt
     matches!(
         code,
         1 | 11 | 22 | 23 | 26 | 28 | 33 | 36 | 38 | 42 | 49 | 64 | 65
     )
+    // made until here
 }
 
 /// Returns the kinds of the fields of a type that only IN has, in another class.
@@ -236,6 +238,7 @@ fn early_fields_of(code: u16) -> &'static [Kind]
     ensures { result.now ≡ fields_in table code }
 {
     match code {
+        // made by tools/types from specs/Table.antt
         1 => &[Kind::Ipv4], // A
         2 => &[NAME], // NS
         3 => &[NAME], // MD
@@ -266,6 +269,7 @@ fn early_fields_of(code: u16) -> &'static [Kind]
         28 => &[Kind::Ipv6], // AAAA
         29 => &[Kind::Shaped(Shape::Location)], // LOC
         30 => &[LOWERED, OLD_TYPES], // NXT
+        // made until here
         middle_code => middle_fields_of(middle_code),
     }
 }
@@ -275,6 +279,7 @@ fn middle_fields_of(code: u16) -> &'static [Kind]
     ensures { result.now ≡ fields_in (middle_rows ++ late_rows) code }
 {
     match code {
+        // made by tools/types from specs/Table.antt
         33 => &[Kind::U16, Kind::U16, Kind::U16, LOWERED], // SRV
         35 => &[Kind::U16, Kind::U16, TEXT, TEXT, TEXT, LOWERED], // NAPTR
         36 => &[Kind::U16, LOWERED], // KX
@@ -306,6 +311,7 @@ fn middle_fields_of(code: u16) -> &'static [Kind]
         66 => &[Kind::TypeCode, Kind::U8, Kind::U16, PLAIN], // DSYNC
         67 => &[BASE64], // HHIT
         68 => &[BASE64], // BRID
+        // made until here
         late_code => late_fields_of(late_code),
     }
 }
@@ -315,6 +321,7 @@ fn late_fields_of(code: u16) -> &'static [Kind]
     ensures { result.now ≡ fields_in late_rows code }
 {
     match code {
+        // made by tools/types from specs/Table.antt
         99 => &[TEXTS], // SPF
         104 => &[Kind::U16, Kind::Locator], // NID
         105 => &[Kind::U16, Kind::Ipv4], // L32
@@ -335,6 +342,7 @@ fn late_fields_of(code: u16) -> &'static [Kind]
         264 => &[Kind::NodeNumber], // IPN
         32768 => &[Kind::U16, Kind::U8, Kind::U8, HEX], // TA
         32769 => &[Kind::U16, Kind::U8, Kind::U8, HEX], // DLV
+        // made until here
         _ => &[HEX],
     }
 }
