@@ -228,16 +228,8 @@ pub mod rdata {
 /// Resource records: written whole or not at all, and read without a copy.
 pub mod record {
     pub use dnw_record::record_ref::RecordRef;
+    pub use dnw_write_script::record_laws as laws;
     pub use dnw_write_script::wire_record::{WireData, WireRecord};
-
-    /// What follows from the definitions of records.
-    pub mod laws {
-        pub use dnw_record::laws::data_have_fields;
-        pub use dnw_write_script::record_laws::{
-            candidates_precede, records_come_back, records_fit, records_stay_bounded,
-            refused_records_undo,
-        };
-    }
 }
 
 /// The types of records.

@@ -1,9 +1,12 @@
-//! What follows from the definitions of records whose data are bytes or one name, for callers' proofs.
+//! What follows from the definitions of records, for callers' proofs: of those whose data are bytes or one name, and of data of any
+//! type.
 //!
 //! The functions do nothing. Each is there for its clauses.
 ghost use Rattle.dnw_write_script.specs.RecordLaws.{RefusedRecordsUndo, RefusedDataUndo, RecordsFit, RecordsLie, RecordsAreRead};
 ghost use Rattle.dnw_write_script.specs.RecordLaws.{PartPrecedes, PartsPrecede, CountedPrecede, DataPrecede, RecordsPrecede};
 ghost use Rattle.dnw_write_script.specs.RecordLaws.{PartStaysBounded, PartsStayBounded, CountedStayBounded, DataStayBounded, RecordsStayBounded};
+
+pub use dnw_record::laws::data_have_fields;
 
 /// A record that is refused leaves the whole encoder unchanged, the count of names included, if it began at the buffer's
 /// end with every candidate before it. So do refused data on any encoder.
