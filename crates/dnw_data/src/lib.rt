@@ -13,5 +13,6 @@ pub mod lists;
 pub mod record_data;
 pub mod record_type_set;
 pub mod shapes;
+pub mod signature;
 pub mod table;
 mod whole_name;
