@@ -40,7 +40,7 @@ pub use Rattle.dnw_write.specs.Encoder
 pub use Rattle.dnw_write.specs.EncoderLaws
 pub use Rattle.dnw_write.specs.EncoderValue
 pub use Rattle.dnw_write.specs.Guards
-pub use Rattle.dnw_write.specs.Checkpoints
+pub use Rattle.dnw_write.specs.Marks
 pub use Rattle.dnw_write.specs.NameFrames
 pub use Rattle.dnw_name_zones.specs.LowerNames
 pub use Rattle.dnw_name_zones.specs.Keys
@@ -51,11 +51,11 @@ pub use Rattle.dnw_base.specs.Serials
 pub use Rattle.dnw_data.specs.TypeSets
 pub use Rattle.dnw_data.specs.RecordData
 pub use Rattle.dnw_data.specs.SetLaws
-pub use Rattle.dnw_record.specs.Parts
+pub use Rattle.dnw_write_script.specs.Parts
 pub use Rattle.dnw_record.specs.Records
-pub use Rattle.dnw_record.specs.WrittenRecords
-pub use Rattle.dnw_record.specs.RecordFrames
-pub use Rattle.dnw_record.specs.RecordLaws
+pub use Rattle.dnw_write_script.specs.WrittenRecords
+pub use Rattle.dnw_write_script.specs.RecordFrames
+pub use Rattle.dnw_write_script.specs.RecordLaws
 pub use Rattle.dnw_write_script.specs.Script
 pub use Rattle.dnw_write_script.specs.Pieces
 pub use Rattle.dnw_write_script.specs.Replies
@@ -76,9 +76,8 @@ pub use Rattle.dnw_data.specs.Values
 pub use Rattle.dnw_data.specs.Walks
 pub use Rattle.dnw_record.specs.DataPieces
 pub use Rattle.dnw_record.specs.DataCopies
-pub use Rattle.dnw_record.specs.AnyRecords
-pub use Rattle.dnw_record.specs.AnyRecordFrames
-pub use Rattle.dnw_record.specs.AnyRecordLaws
+pub use Rattle.dnw_record.specs.OwnedRecords
+pub use Rattle.dnw_record.specs.PieceLaws
 pub use Rattle.dnw_zone_values.specs.Numbers
 pub use Rattle.dnw_zone_values.specs.Octets
 pub use Rattle.dnw_zone_values.specs.Spelling

@@ -3,6 +3,10 @@
 
 -- Limits (RFC 1035, section 2.3.4).
 pub use Rattle.dnw_base.specs.Limits.{max_label, max_labels, max_name, max_character_data, max_message, max_pointers}
+-- the codes of types that rules name, and what is before the signer in an RRSIG
+pub use Rattle.dnw_base.specs.TypeCodes.{a_code, aaaa_code, any_code, axfr_code, cname_code, dname_code, ds_code, ixfr_code, key_code, mx_code, ns_code, nsec_code, nsec3_code}
+pub use Rattle.dnw_base.specs.TypeCodes.{nxt_code, opt_code, ptr_code, rrsig_code, sig_code, soa_code, srv_code, tsig_code, zonemd_code}
+pub use Rattle.dnw_data.specs.Signature.{before_signer}
 pub use Rattle.dnw_base.specs.Limits.{min_payload, max_data, max_window, pointer_bits, pointer_offsets, pointer_reach}
 -- Errors.
 pub use Rattle.dnw_base.specs.declared.error.ProtoError.{ProtoError}
@@ -74,7 +78,7 @@ pub use Rattle.dnw_write.specs.EmittingLaws.{frame, fails_unchanged}
 pub use Rattle.dnw_write.specs.EmittedName.{EmitsName, EmitsLabels, pointer_to}
 pub use Rattle.dnw_write.specs.NameFrames.{frame_name}
 pub use Rattle.dnw_write.specs.Guards.{Guards, guarded, former}
-pub use Rattle.dnw_write.specs.Checkpoints.{CheckpointValue, checkpoint_of, rewound, RewindingUndoes}
+pub use Rattle.dnw_write.specs.Marks.{MarkValue, mark_of, rewound, RewindingUndoes}
 pub use Rattle.dnw_write_suffixes.specs.Candidates.{Finds, FindsUsable, suffixes}
 pub use Rattle.dnw_write.specs.EncoderLaws.{NameComesBack, NameIsRead, NamesTakeNoMore, PointersSave, FramesFollow, ItemsKeepFrame}
 pub use Rattle.dnw_write.specs.EncoderLaws.{FillsTakeNoMemory, FillsStayBounded, ItemsStayBounded, NamesStayBounded, PlacesStayBounded, WritesStayBounded}
@@ -83,13 +87,13 @@ pub use Rattle.dnw_write.specs.CandidateLaws.{KeepsPreceding, NewPrecede, Writes
 pub use Rattle.dnw_write.specs.CandidateLaws.{StoresPrecede, TrimsPrecede, RewindsPrecede, ItemsPrecede, ItemPrecedes}
 -- Resource records.
 pub use Rattle.dnw_record.specs.Records.{RecordValue, RecordAt, record_of, TakesRecord, FailsRecord, HasDataName, FailsDataName, data_octets}
-pub use Rattle.dnw_record.specs.declared.wire_record.WireRecord.{WireRecord}
-pub use Rattle.dnw_record.specs.WrittenRecords.{EmitsData, EmitsRecord, NumbersFit}
-pub use Rattle.dnw_record.specs.RecordFrames.{frame_data, frame_record}
-pub use Rattle.dnw_record.specs.RecordLaws.{RefusedRecordsUndo, RefusedDataUndo}
-pub use Rattle.dnw_record.specs.RecordLaws.{PartPrecedes, PartsPrecede, CountedPrecede, DataPrecede, RecordsPrecede}
-pub use Rattle.dnw_record.specs.RecordLaws.{KeepsBounded, PartStaysBounded, PartsStayBounded, CountedStayBounded, DataStayBounded, RecordsStayBounded}
-pub use Rattle.dnw_record.specs.Parts.{WirePart, EmitsWirePart, EmitsWireParts, EmitsCounted, HasTextOfSize, parts_size, wire_size}
+pub use Rattle.dnw_write_script.specs.declared.wire_record.WireRecord.{WireRecord}
+pub use Rattle.dnw_write_script.specs.WrittenRecords.{EmitsData, EmitsRecord, NumbersFit}
+pub use Rattle.dnw_write_script.specs.RecordFrames.{frame_data, frame_record}
+pub use Rattle.dnw_write_script.specs.RecordLaws.{RefusedRecordsUndo, RefusedDataUndo}
+pub use Rattle.dnw_write_script.specs.RecordLaws.{PartPrecedes, PartsPrecede, CountedPrecede, DataPrecede, RecordsPrecede}
+pub use Rattle.dnw_write_script.specs.RecordLaws.{KeepsBounded, PartStaysBounded, PartsStayBounded, CountedStayBounded, DataStayBounded, RecordsStayBounded}
+pub use Rattle.dnw_write_script.specs.Parts.{WirePart, EmitsWirePart, EmitsWireParts, EmitsCounted, HasTextOfSize, parts_size, wire_size}
 -- The fields of the data of records.
 pub use Rattle.dnw_record.specs.RecordFields.{record_fields}
 -- Scripts.
@@ -206,13 +210,9 @@ pub use Rattle.dnw_record.specs.declared.from_fields.FromFieldsError.{FromFields
 pub use Rattle.dnw_record.specs.DataPieces.{ArePiecesOf, DataPiece, DataValue, HasPieces, IsData, IsDataOfType, data_kinds, kinds_of, octets_of, piece_octets}
 pub use Rattle.dnw_record.specs.DataCopies.{Copies, FailsToCopy, TakesPiece, TakesPieces, alone, data_start, kinds_at, record_kinds}
 pub use Rattle.dnw_record.specs.GivenFields.{AreFieldsOf, FailsGivenFields, IsFieldOf, front, front_of, given_kinds}
-pub use Rattle.dnw_record.specs.WireRecords.{HaveNameAndOthers, HaveNoName, IsOfWireRecord, SaysData, SaysRecord, wire_data_octets}
-pub use Rattle.dnw_record.specs.AnyRecords.{AnyNumbersFit, EmitsAnyRecord, EmitsCopyOf, EmitsRData, HasFields, IsCopyOf, encoding_of, mode_of, parts_of}
-pub use Rattle.dnw_record.specs.AnyRecordFrames.{frame_any_record, frame_copy}
-pub use Rattle.dnw_record.specs.AnyRecordLaws.{AnyRecordsAreRead, AnyRecordsFit, AnyRecordsPrecede, AnyRecordsStayBounded, CandidatesAreRead, DataHaveFields}
-pub use Rattle.dnw_record.specs.AnyRecordLaws.{NamesKeepRead, NewAreRead, PlainDataAreOctets, ReadsAs, RefusedAnyUndo, WholeDataAreOctets, WritesKeepRead}
-pub use Rattle.dnw_record.specs.AnyRecordLaws.{any_record_size, piece_value, piece_values, written_piece, written_pieces}
-pub use Rattle.dnw_record.specs.AnyRecordFrames.{frame_rdata}
+pub use Rattle.dnw_write_script.specs.WireRecords.{HaveNameAndOthers, HaveNoName, IsOfWireRecord, SaysData, SaysRecord, encoding_of, is_name, wire_data_octets}
+pub use Rattle.dnw_record.specs.OwnedRecords.{IsCopyOf, name_of}
+pub use Rattle.dnw_record.specs.PieceLaws.{DataHaveFields, piece_value, piece_values}
 -- the pointers that names in data follow
 pub use Rattle.dnw_record.specs.DataPointers.{FieldFollows, IsNoField, TakesAllPointers, TakesDataPointers, TakesPointers}
 pub use Rattle.dnw_message_read.specs.DataPointers.{records_of}
@@ -221,7 +221,7 @@ pub use Rattle.dnw_signed.specs.declared.error.CanonicalError.{CanonicalError}
 pub use Rattle.dnw_signed.specs.CanonicalData.{IsCanonical, canonical_piece, canonical_pieces}
 pub use Rattle.dnw_signed.specs.RecordSets.{AreCanonical, FailsSetFrom, FailsSet, FirstOther, IsMember, IsOfSet, IsRecordSet, IsSet, IsInOrder}
 pub use Rattle.dnw_signed.specs.RecordSets.{set_head, set_record, signed_owner}
-pub use Rattle.dnw_signed.specs.SignedFields.{FailsSignedFields, IsRrsig, IsSignedFields, before_signer}
+pub use Rattle.dnw_signed.specs.SignedFields.{FailsSignedFields, IsRrsig, IsSignedFields}
 pub use Rattle.dnw_signed.specs.CanonicalLaws.{AreAmong, DependsOnSet, IsLike, IsLikeData, KeepsInAnyOrder}
 -- sums of DNSSEC
 pub use Rattle.dnw_signed.specs.declared.error.DnssecError.{DnssecError}
@@ -243,13 +243,13 @@ pub use Rattle.dnw_message_writer.specs.ContentLaws.{given_form, GivenRecordsAre
 pub use Rattle.dnw_message_writer.specs.Copying.{AreASet, AreOfOneKind, AreOfOneSet, CopiesHeld, CopiesMessage, CopiesQuestions, CopiesSections, CopiesSets, copied_past, CopyFits, EndsBefore}
 pub use Rattle.dnw_message_writer.specs.Copying.{FailsHeld, FailsQuestions, FailsSections, FailsSets, FailsToAddCopy, FailsToAddQuery, FailsToCopyMessage, FollowsFew, StopsAmong}
 pub use Rattle.dnw_message_writer.specs.Copying.{StandWhole, StopsInSet}
-pub use Rattle.dnw_message_writer.specs.Copying.{copied_form, covers_no_type, held_from, held_in, is_held, lacks_required, left_out_of, MayNotMiss, Misses, own_octets, query_form, sets_of, sig_code, signs_message, tsig_code}
+pub use Rattle.dnw_message_writer.specs.Copying.{copied_form, covers_no_type, held_from, held_in, is_held, lacks_required, left_out_of, MayNotMiss, Misses, own_octets, query_form, sets_of, signs_message}
 pub use Rattle.dnw_message_writer.specs.CopyLaws.{AreItemsOf, AreTheFirst, CopiesHold, IsCopiedQuestion, IsCopiedRecord}
 pub use Rattle.dnw_message_writer.specs.Data.{AreOfData}
 pub use Rattle.dnw_message_writer.specs.Edns.{AddsOpt, AddsOptItem, FailsToAddOpt, FailsToAddOptItem, opt_data, opt_size, padding, ttl_of_edns}
 pub use Rattle.dnw_message_writer.specs.Hints.{slot_of}
 pub use Rattle.dnw_message_writer.specs.Items.{fields_of_record, IsNear, IsOwner, IsQuestion, IsRecord, ItemForm, ItemPast, QuestionGoesPast, RecordGoesPast}
-pub use Rattle.dnw_message_writer.specs.Items.{opt_code, question_form, question_past, record_form, record_past}
+pub use Rattle.dnw_message_writer.specs.Items.{question_form, question_past, record_form, record_past}
 pub use Rattle.dnw_message_writer.specs.Listed.{data_form, data_past, FailsListed, FailsToAddData, ListsData}
 pub use Rattle.dnw_message_writer.specs.NameLaws.{CompressedNamesTakeNoMore, KeepsSettled, WrittenNamesAreRead}
 pub use Rattle.dnw_message_writer.specs.Needs.{with_asked, with_all_asked, has_left_required, has_required, holding, holding_all, is_of_address, is_below, is_below_cut, is_glue, is_extra, is_of_query, is_request, is_required, is_required_in, is_server, is_transfer, is_uncut, purpose_by, purpose_of, signs_servers}

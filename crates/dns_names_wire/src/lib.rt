@@ -21,9 +21,9 @@ pub use dnw_name_zones::lower_name::LowerName;
 pub use dnw_name_zones::rr_key::RrKey;
 pub use dnw_name_zones::usage::ZoneUsage;
 pub use dnw_record::record_ref::RecordRef;
-pub use dnw_record::wire_record::{WireData, WireRecord};
 pub use dnw_write::binary::BinEncodable;
 pub use dnw_write::encoder::{BinEncoder, NameEncoding, Place, RDataEncoding};
+pub use dnw_write_script::wire_record::{WireData, WireRecord};
 
 /// Types that are read from messages or written into them.
 pub mod binary {
@@ -101,8 +101,8 @@ pub mod dnssec {
 /// Writing messages of a bounded size, and what follows from the definitions of writing.
 pub mod encoder {
     pub use dnw_write::encoder::{
-        BinEncoder, CANDIDATE_LIMIT, Checkpoint, ModalEncoder, NAME_LIMIT, NameEncoding, Place,
-        RDataEncoding, laws,
+        BinEncoder, CANDIDATE_LIMIT, Mark, ModalEncoder, NAME_LIMIT, NameEncoding, Place, RDataEncoding,
+        laws,
     };
 }
 
@@ -218,9 +218,8 @@ pub mod net {
     pub use dnw_name_arpa::net::{IpNet, Ipv4Net, Ipv6Net};
 }
 
-/// The data of records of any type, and records that are written from them, by the table of `fields`.
+/// The data of records of any type, and records that have them, by the table of `fields`.
 pub mod rdata {
-    pub use dnw_record::checked::CheckedRecord;
     pub use dnw_record::from_fields::FromFieldsError;
     pub use dnw_record::rdata::{RData, RDataError};
     pub use dnw_record::record::Record;
@@ -228,9 +227,9 @@ pub mod rdata {
 
 /// Resource records: written whole or not at all, and read without a copy.
 pub mod record {
-    pub use dnw_record::laws;
     pub use dnw_record::record_ref::RecordRef;
-    pub use dnw_record::wire_record::{WireData, WireRecord};
+    pub use dnw_write_script::record_laws as laws;
+    pub use dnw_write_script::wire_record::{WireData, WireRecord};
 }
 
 /// The types of records.

@@ -1,6 +1,7 @@
 pub mod Entries
 pub mod CodeTexts
 pub mod TypeNames
+pub mod TypeCodes
 pub mod RecordTypes
 pub mod DnsClasses
 pub mod Serials

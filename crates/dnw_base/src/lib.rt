@@ -14,4 +14,5 @@ pub mod record_type;
 pub mod restrict;
 pub mod serial_number;
 mod table;
+pub mod type_codes;
 mod type_names;

@@ -28,5 +28,8 @@ pub const MAX_WINDOW: usize = 32;
 /// The first octet from which on an element of a name is a compression pointer (RFC 1035, section 4.1.4).
 pub const POINTER_BITS: u8 = 192;
 
+/// A compression pointer holds 14 bits, and so one of as many offsets (RFC 1035, section 4.1.4).
+pub const POINTER_OFFSETS: usize = 16384;
+
 /// Names that end before this offset are kept for compression: a pointer holds 14 bits (RFC 1035, section 4.1.4).
-pub const POINTER_REACH: usize = 0x3FFF;
+pub const POINTER_REACH: usize = POINTER_OFFSETS - 1;

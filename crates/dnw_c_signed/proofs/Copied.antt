@@ -3,7 +3,7 @@ use Rattle.std.proofs.Common.{◌≡◌, ℕ, Some, ◌+◌, ◌<◌, ◌≤◌,
 use Rattle.std.proofs.lemmas.List.{append-nil}
 use Rattle.dnw_base.specs.Decoder.{Decoder}
 use Rattle.dnw_c_base.specs.declared.failure.Failure.{Failure}
-use Rattle.dnw_record.specs.AnyRecords.{IsCopyOf}
+use Rattle.dnw_record.specs.OwnedRecords.{IsCopyOf}
 use Rattle.dnw_record.specs.declared.record.Record.{Record}
 use Rattle.dnw_record.proofs.RecordReading.{record_own}
 use Rattle.dnw_base.specs.Limits.{max_pointers}

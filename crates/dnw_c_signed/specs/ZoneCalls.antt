@@ -3,7 +3,7 @@ use Rattle.std.specs.Prelude.{◌≡◌, ◌<◌, ◌⊎◌, ℕ, Some, None, Li
 use Rattle.dnw_base.specs.Decoder.{Decoder}
 use Rattle.dnw_base.specs.Limits.{max_pointers}
 use Rattle.dnw_record.specs.Records.{RecordValue}
-use Rattle.dnw_record.specs.AnyRecords.{IsCopyOf}
+use Rattle.dnw_record.specs.OwnedRecords.{IsCopyOf}
 use Rattle.dnw_record.specs.declared.record.Record.{Record}
 use Rattle.dnw_record.specs.DataPointers.{TakesDataPointers}
 use Rattle.dnw_signed.specs.ZoneDigests.{FailsZoneDigest, IsZoneDigest}

@@ -1,7 +1,7 @@
 //! Records of a message.
 ghost use Rattle.std.specs.Prelude.{◌≡◌, ◌≤◌, ℕ, List, length, IfOk, IfErr};
 ghost use Rattle.dnw_name_read.specs.Reading.{NameAt};
-ghost use Rattle.dnw_record.specs.AnyRecords.{IsCopyOf};
+ghost use Rattle.dnw_record.specs.OwnedRecords.{IsCopyOf};
 ghost use Rattle.dnw_record.specs.Records.{FailsRecord};
 ghost use Rattle.dnw_c_signed.specs.RecordCalls.{AreLimitedRecords, FailsRecordAt, FailsToCopyRecord, FailsToRead, HasRecordAt};
 ghost use Rattle.dnw_c_signed.specs.Inside.Held.{records_held};

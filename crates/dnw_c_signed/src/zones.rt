@@ -1,7 +1,7 @@
 //! The digest of a zone.
 ghost use Rattle.std.specs.Prelude.{◌≡◌, [], ◌∷◌, ◌++◌, ℕ, Some, IfOk, IfErr, OnOk};
 ghost use Rattle.dnw_record.specs.Records.{RecordValue};
-ghost use Rattle.dnw_record.specs.AnyRecords.{IsCopyOf};
+ghost use Rattle.dnw_record.specs.OwnedRecords.{IsCopyOf};
 ghost use Rattle.dnw_record.specs.declared.record.Record.{Record};
 ghost use Rattle.dnw_record.specs.DataPointers.{TakesDataPointers};
 ghost use Rattle.dnw_c_base.specs.Results.{Returns};

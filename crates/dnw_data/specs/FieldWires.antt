@@ -3,6 +3,7 @@
 use Rattle.std.specs.Prelude.{◌≡◌, ℕ, ◌<◌, ◌^◌, Bool, true, false, None, List, ◌∷◌, [], ◌++◌, drop, length}
 use Rattle.std.specs.Int.{w16, w32, w64, to_be_bytes}
 use Rattle.std.specs.Net.Addr.{octets_of}
+use Rattle.dnw_base.specs.Limits.{max_data}
 use Rattle.dnw_base.specs.Names.{AreLabels, label_wire, wire}
 use Rattle.dnw_base.specs.RecordTypes.{type_code as code_of}
 use Rattle.dnw_data.specs.Lists.{list_fault}
@@ -34,7 +35,7 @@ field_wire (shaped own) = own.octets
 -- Octets that their length cannot count: one octet has no number above 255, and two none above 65535.
 abbrev pub IsLong : FieldValue → Type 0
 IsLong (counted own) = 255 < length own
-IsLong (long_counted own) = 65535 < length own
+IsLong (long_counted own) = max_data < length own
 IsLong value = ⊥
 
 -- The octets of the field are appended, or they are too many for its length, and nothing is.

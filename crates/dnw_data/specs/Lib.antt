@@ -3,6 +3,7 @@ pub mod WholeNames
 pub mod Prefixes
 pub mod Lists
 pub mod Shapes
+pub mod Signature
 pub mod Values
 pub mod Fields
 pub mod FieldWires

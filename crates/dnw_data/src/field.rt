@@ -14,7 +14,7 @@ use crate::lists::Items;
 use crate::shapes::{Shaped, shape_size};
 use dnw_base::decoder::BinDecoder;
 use dnw_base::error::DecodeError;
-use dnw_base::limits::MAX_NAME;
+use dnw_base::limits::{MAX_DATA, MAX_NAME};
 use dnw_base::record_type::RecordType;
 use dnw_base::serial_number::SerialNumber;
 use dnw_name::name_ref::NameRef;
@@ -160,7 +160,7 @@ fn append_long_counted(octets: &[u8], out: &mut Vec<u8>) -> Result<bool, AllocEr
     ensures appends { IfOk result (AppendsWire (long_counted octets.now) out.old.items out.new.items) }
     ensures same { OnErr result (out.new.items ≡ out.old.items) }
 {
-    if octets.len() > 65535 {
+    if octets.len() > MAX_DATA {
         return Ok(false);
     }
     let before = out.len();

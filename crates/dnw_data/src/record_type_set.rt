@@ -7,8 +7,6 @@ ghost use Rattle.std.specs.Ordering.{eq_by_cmp, on};
 ghost use Rattle.dnw_base.specs.RecordTypes.{type_cmp, type_code, type_of_code};
 ghost use Rattle.dnw_base.specs.declared.record_type.RecordType.{RecordType};
 ghost use Rattle.dnw_base.specs.declared.error.DecodeError.{DecodeError};
-ghost use Rattle.dnw_write.specs.Encoder.{Writes};
-ghost use Rattle.dnw_write.specs.EmittingLaws.{frame};
 ghost use Rattle.dnw_data.specs.TypeSets.{HasOwnMemory, YieldsSome, IsSetOf, Encodes, set_codes, windows_of, windows_codes, in_bounds, bitmap_types};
 ghost use Rattle.dnw_data.specs.Inside.Bitmaps.{Above};
 ghost use Rattle.dnw_data.specs.RecordData.{TakesTypeSet, FailsTypeSet, TypeSetRunsOut};
@@ -19,8 +17,6 @@ use dnw_base::decoder::BinDecoder;
 use dnw_base::error::{DecodeError, ProtoError, ProtoResult};
 use dnw_base::record_type::RecordType;
 use dnw_base::restrict::Restrict;
-use dnw_write::binary::BinEncodable;
-use dnw_write::encoder::BinEncoder;
 use smallvec::SmallVec;
 use std::alloc::{AllocError, Global};
 use std::fmt;
@@ -242,17 +238,6 @@ impl<'r> RecordDataDecodable<'r> for RecordTypeSet {
         let set = read_bitmap(alloc, bitmap)?;
         decoder.skip(len)?;
         Ok(set)
-    }
-}
-
-/// A set is written as its bytes.
-impl BinEncodable for RecordTypeSet {
-    ghost emits = { λ set v. Writes v set.encoding };
-
-    ghost keeps_frame = { λ set v outcome w. frame v set.encoding outcome w };
-
-    fn emit(&self, encoder: &mut BinEncoder<'_>) -> ProtoResult<()> {
-        encoder.emit_vec(self.encoding.as_slice())
     }
 }
 

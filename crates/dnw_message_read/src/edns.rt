@@ -9,12 +9,10 @@ use crate::items::Records;
 use dnw_base::error::DecodeError;
 use dnw_base::limits::MIN_PAYLOAD;
 use dnw_base::record_type::RecordType;
+use dnw_base::type_codes::OPT;
 use dnw_record::record_ref::RecordRef;
 use std::marker::Model;
 use thiserror::Error;
-
-/// The code of the type `OPT` (RFC 6891, section 6.1.1).
-const OPT_CODE: u16 = 41;
 
 /// Why the EDNS of a message breaks a rule.
 #[derive(Debug, Drop, Error)]
@@ -264,7 +262,7 @@ pub(crate) fn next_opt<'m>(records: &mut Records<'m>) -> Option<RecordRef<'m>>
 pub(crate) fn is_opt_code(code: u16) -> bool
     ensures { result ≡ is_opt (type_of_code code) }
 {
-    code == OPT_CODE
+    code == OPT
 }
 
 /// Returns `true` for `OPT`.

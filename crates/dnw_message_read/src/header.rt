@@ -1,20 +1,14 @@
 //! Headers of messages.
 ghost use Rattle.std.specs.Prelude.{◌≡◌, ◌<◌, ◌≤◌, ◌^◌};
-ghost use Rattle.std.specs.Prelude.{refl};
 ghost use Rattle.dnw_name.specs.Decodable.{LacksBytes};
-ghost use Rattle.dnw_write.specs.Encoder.{Writes};
-ghost use Rattle.dnw_write.specs.EmittingLaws.{frame, fails_unchanged};
-ghost use Rattle.std.proofs.Common.{lit≤};
 ghost use Rattle.dnw_message_read.specs.HeaderLaws.{HeaderFits};
 ghost use Rattle.dnw_message_read.specs.Headers.{TakesHeader, header_of, header_wire, is_set, flag, flags_of, metadata_of};
 
 use crate::op_code::OpCode;
 use crate::response_code::ResponseCode;
 use dnw_base::decoder::BinDecoder;
-use dnw_base::error::{DecodeError, ProtoResult};
+use dnw_base::error::DecodeError;
 use dnw_name::binary::BinDecodable;
-use dnw_write::binary::{BinEncodable, EncodedSize};
-use dnw_write::encoder::BinEncoder;
 use std::alloc::Global;
 
 /// Whether a message asks or answers.
@@ -162,30 +156,6 @@ impl<'r> BinDecodable<'r> for Header {
         let mut decoder = BinDecoder::new(bytes);
         Header::read(alloc, &mut decoder)
     }
-}
-
-impl BinEncodable for Header {
-    ghost emits = { λ header v. Writes v (header_wire header) };
-
-    ghost keeps_frame = { λ header v outcome w. frame v (header_wire header) outcome w };
-
-    /// Writes the twelve octets.
-    fn emit(&self, encoder: &mut BinEncoder<'_>) -> ProtoResult<()> {
-        encoder.emit_vec(&self.to_octets())
-    }
-}
-
-/// So a header can be a placeholder, and be filled in once the sections are written.
-impl EncodedSize for Header {
-    const LEN: usize = 12;
-
-    ghost LEN = { 12 };
-
-    ghost at_least_one = { lit≤ tt };
-
-    ghost writes_len = { λ header v w h. (header_wire header, refl, h.1) };
-
-    ghost fails_unchanged = { λ header v w error h. fails_unchanged v (header_wire header) error w h };
 }
 
 /// Returns what the id and the flags say.

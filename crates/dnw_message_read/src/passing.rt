@@ -11,6 +11,7 @@ use crate::edns::is_opt_code;
 use crate::error::{MessageError, MessageErrorKind, Section};
 use dnw_base::decoder::BinDecoder;
 use dnw_base::error::DecodeError;
+use dnw_base::limits::POINTER_OFFSETS;
 use dnw_name::name_ref::NameRef;
 use dnw_name_read::walk::ReadSteps;
 use dnw_record::record_ref::FIXED_SIZE;
@@ -20,9 +21,6 @@ const QUESTION_FIELDS: usize = 4;
 
 /// The least number that the two octets of a pointer are.
 const FIRST_POINTER: u16 = 0xC000;
-
-/// The offsets from this one on are past the reach of pointers.
-const POINTER_OFFSETS: usize = 0x4000;
 
 /// A pointer to the name of the item before, or that name if it is a pointer, and how many pointers a name follows that is this
 /// pointer. Most records of a message are owned by the name of the item before, which is not walked again.

@@ -16,8 +16,6 @@ use Rattle.dnw_data.specs.Table.{fields_of}
 use Rattle.dnw_data.specs.Values.{own_size}
 use Rattle.dnw_data.proofs.Codes.{class_back, code_back}
 use Rattle.dnw_name_read.proofs.Counts.{Reads_own}
-use Rattle.dnw_write.specs.declared.encoder.modes.NameEncoding.TheVariants.{Uncompressed}
-use Rattle.dnw_record.specs.AnyRecordLaws.{written_pieces}
 use Rattle.dnw_record.specs.DataCopies.{TakesPiece, TakesPieces, data_start}
 use Rattle.dnw_record.specs.DataPieces.{ArePiecesOf, DataPiece, HasPieces, IsPieceOf, name_piece, octets_of, octets_piece}
 use Rattle.dnw_record.specs.Inside.Copying.{IsNoName}
@@ -317,13 +315,6 @@ walk (kind ∷ kinds) (name_piece form labels ∷ fs) b p o run xs (is, are) tex
 
 -- ---- records
 
-written_same : (fs : List DataPiece) → written_pieces Uncompressed false fs ≡ fs
-written_same [] = refl
-written_same (octets_piece own ∷ fs) = ap (λ x. octets_piece own ∷ x) (written_same fs)
-written_same (name_piece Compressible labels ∷ fs) = ap (λ x. name_piece Compressible labels ∷ x) (written_same fs)
-written_same (name_piece Lowered labels ∷ fs) = ap (λ x. name_piece Lowered labels ∷ x) (written_same fs)
-written_same (name_piece Plain labels ∷ fs) = ap (λ x. name_piece Plain labels ∷ x) (written_same fs)
-
 pub given_data_come_back : GivenDataComeBack
 given_data_come_back r x octets (owner, kind, class, ttl, inside, stand) (fs, has, are) =
     let b = up_to_end x in
@@ -345,7 +336,7 @@ given_data_come_back r x octets (owner, kind, class, ttl, inside, stand) (fs, ha
     } in
     let same : fields_of (class_code (class_of_code r.class)) (type_code (type_of_code r.record_type)) octets ≡ kinds =
     ap (λ n. fields_of n (type_code (type_of_code r.record_type)) octets) (class_back r.class) ∙ ap (λ n. fields_of r.class n octets) (code_back r.record_type) in
-    let read = read_kinds given x fs Uncompressed false (class ∙ ap class_of_code (sym (class_back r.class))) (kind ∙ ap type_of_code (sym (code_back r.record_type)))
+    let read = read_kinds given x fs (class ∙ ap class_of_code (sym (class_back r.class))) (kind ∙ ap type_of_code (sym (code_back r.record_type)))
     (subst (λ k. HasPieces k octets fs) (sym same) has)
-    (subst (λ k. TakesPieces k (data_start x) (written_pieces Uncompressed false fs)) (sym same) (subst (λ ps. TakesPieces kinds (data_start x) ps) (sym (written_same fs)) takes)) in
+    (subst (λ k. TakesPieces k (data_start x) fs) (sym same) takes) in
     (fs, subst (λ k. TakesPieces k (data_start x) fs) (sym (read ∙ same)) takes, has.whole)

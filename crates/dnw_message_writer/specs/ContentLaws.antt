@@ -2,11 +2,12 @@
 use Rattle.std.specs.Prelude.{◌≡◌, ℕ, ◌<◌, ◌≤◌, ◌^◌, ◌==◌, List, [], ◌∷◌, length, map, take}
 use Rattle.std.specs.List.{AllByRecursion}
 use Rattle.dnw_base.specs.Names.{AreLabels}
+use Rattle.dnw_base.specs.TypeCodes.{opt_code}
 use Rattle.dnw_data.specs.Table.{fields_of}
 use Rattle.dnw_message_writer.specs.Contents.{AddedQuestion, AddedRecord, AddedItems, HoldsItems, QuestionFits, RecordFits, cut_flags, no_items, with_data, with_question, with_records}
 use Rattle.dnw_message_writer.specs.Data.{AreOfData}
 use Rattle.dnw_message_writer.specs.Inside.Fitting.{HasLabels}
-use Rattle.dnw_message_writer.specs.Items.{IsRecord, ItemForm, fields_of_record, opt_code, question_form, record_form}
+use Rattle.dnw_message_writer.specs.Items.{IsRecord, ItemForm, fields_of_record, question_form, record_form}
 use Rattle.dnw_message_writer.specs.Sections.{rank}
 use Rattle.dnw_message_writer.specs.Sets.{AddsSet, CutsOff}
 use Rattle.dnw_message_writer.specs.States.{AddsItem, AddsLastItem, BeginsMessage, for_last}

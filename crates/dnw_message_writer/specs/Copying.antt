@@ -5,6 +5,7 @@ use Rattle.dnw_base.specs.DnsClasses.{class_code}
 use Rattle.dnw_base.specs.Limits.{max_pointers}
 use Rattle.dnw_base.specs.Names.{AreLabels, encoded_size, lower}
 use Rattle.dnw_base.specs.RecordTypes.{type_code}
+use Rattle.dnw_base.specs.TypeCodes.{opt_code, sig_code, tsig_code}
 use Rattle.dnw_record.specs.DataCopies.{Copies, FailsToCopy, data_start, record_kinds}
 use Rattle.dnw_record.specs.DataPieces.{IsData}
 use Rattle.dnw_record.specs.DataPointers.{TakesAllPointers}
@@ -16,7 +17,7 @@ use Rattle.dnw_message_read.specs.Edns.{FailsEdns}
 use Rattle.dnw_message_read.specs.Messages.{MessageValue, QueryValue}
 use Rattle.dnw_message_read.specs.declared.edns.EdnsError.{EdnsError}
 use Rattle.dnw_message_writer.specs.Hints.{slot_of}
-use Rattle.dnw_message_writer.specs.Items.{IsQuestion, ItemForm, ItemPast, opt_code, question_past}
+use Rattle.dnw_message_writer.specs.Items.{IsQuestion, ItemForm, ItemPast, question_past}
 use Rattle.dnw_message_writer.specs.Listed.{data_form, data_past}
 use Rattle.dnw_message_writer.specs.Needs.{has_left_required, is_server, is_uncut, purpose_of, signs_servers}
 use Rattle.dnw_message_writer.specs.Replies.{field_at}
@@ -133,13 +134,6 @@ pub data FailsSets (s : Section) (e : CopyError) : List RecordValue → WriterSt
   at_once : (xs : List RecordValue) (w : WriterState) (m : List ℕ) → e ≢ errors.Write NoRoom → StopsInSet s xs w m e → FailsSets s e xs w m
 
 -- ---- messages
-
--- the codes of the types SIG (RFC 2535, section 4.1) and TSIG (RFC 8945, section 4.2)
-abbrev pub sig_code : ℕ
-sig_code = 24
-
-abbrev pub tsig_code : ℕ
-tsig_code = 250
 
 -- The data of a SIG begin with the type that it covers. If that is 0, the SIG covers no records: it is a SIG(0) (RFC 2931, section 3).
 abbrev pub covers_no_type : List ℕ → Bool

@@ -1,9 +1,9 @@
 -- OPT records, as they are written (RFC 6891, section 6.1), and padding (RFC 7830).
 use Rattle.std.specs.Prelude.{◌≡◌, ℕ, ◌+◌, ◌-◌, ◌*◌, ◌%◌, ◌^◌, ◌==◌, ◌||◌, ◌⊎◌, nat_lt, if◌then◌else◌, Option, Some, None, List, [], ◌∷◌, ◌++◌, length, replicate}
 use Rattle.std.specs.Int.{w16, to_be_bytes}
+use Rattle.dnw_base.specs.TypeCodes.{opt_code}
 use Rattle.dnw_message_read.specs.Edns.{HasOptions}
 use Rattle.dnw_message_read.specs.Headers.{flag}
-use Rattle.dnw_message_writer.specs.Items.{opt_code}
 use Rattle.dnw_message_writer.specs.Listed.{data_form, data_past}
 use Rattle.dnw_message_writer.specs.States.{AddsItem, FailsToAdd, room_of}
 use Rattle.dnw_message_writer.specs.declared.edns.Edns.{Edns}

@@ -3,6 +3,7 @@ use Rattle.std.specs.Prelude.{◌≡◌, ℕ, ◌+◌, ◌-◌, ◌<◌, ◌⊎�
 use Rattle.std.specs.Int.{w16, w32, to_be_bytes}
 use Rattle.dnw_base.specs.Limits.{pointer_bits}
 use Rattle.dnw_base.specs.Names.{wire}
+use Rattle.dnw_base.specs.TypeCodes.{opt_code}
 use Rattle.dnw_message_writer.specs.CompressedNames.{Compresses, MayPointTo, pointer_octets}
 use Rattle.dnw_message_writer.specs.Pieces.{ArePieces, GoesPast}
 use Rattle.dnw_message_writer.specs.Standing.{pointed}
@@ -72,10 +73,6 @@ pub record ItemForm : Type 1 where
 pub record ItemPast : Type 1 where
   pub is_opt : Bool
   pub goes : ℕ → List ℕ → ℕ → List ℕ → Type 0
-
--- the code of the type OPT (RFC 6891, section 6.1.1)
-abbrev pub opt_code : ℕ
-opt_code = 41
 
 module _ (slot : List (List ℕ) → ℕ) where
   abbrev pub question_form : List (List ℕ) → ℕ → ℕ → ItemForm

@@ -1,11 +1,12 @@
 -- Records whose data are given as octets, every name in its wire form, and lists of such data.
 use Rattle.std.specs.Prelude.{◌≡◌, ◌≢◌, ℕ, ◌+◌, ◌≤◌, ◌==◌, List, [], ◌∷◌, drop, length, slice_index, slice_range}
 use Rattle.std.specs.Int.{w16, from_be_bytes}
+use Rattle.dnw_base.specs.TypeCodes.{opt_code}
 use Rattle.dnw_data.specs.Table.{fields_of}
 use Rattle.dnw_record.specs.DataPieces.{IsData}
 use Rattle.dnw_message_writer.specs.Data.{AreOfData}
 use Rattle.dnw_message_writer.specs.Hints.{slot_of}
-use Rattle.dnw_message_writer.specs.Items.{IsRecord, ItemForm, ItemPast, RecordGoesPast, fields_of_record, opt_code}
+use Rattle.dnw_message_writer.specs.Items.{IsRecord, ItemForm, ItemPast, RecordGoesPast, fields_of_record}
 use Rattle.dnw_message_writer.specs.Sets.{AddsSet}
 use Rattle.dnw_message_writer.specs.States.{FailsToAdd}
 use Rattle.dnw_message_writer.specs.declared.listed.DataError.{DataError}

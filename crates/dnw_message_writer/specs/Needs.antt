@@ -7,36 +7,12 @@ use Rattle.dnw_base.specs.RecordTypes.{type_code}
 use Rattle.dnw_name_order.specs.Order.{labels_eq}
 use Rattle.dnw_record.specs.Records.{RecordValue, data_octets}
 use Rattle.dnw_message_read.specs.Headers.{flags_of}
+use Rattle.dnw_base.specs.TypeCodes.{a_code, aaaa_code, any_code, axfr_code, ixfr_code, ns_code, rrsig_code}
 use Rattle.dnw_message_read.specs.Messages.{MessageValue, QueryValue}
 use Rattle.dnw_message_writer.specs.Replies.{field_at}
 use Rattle.dnw_message_writer.specs.declared.needs.Purpose.{Purpose}
 use Rattle.dnw_message_writer.specs.declared.section.Section.{Section}
 use Rattle.dnw_message_writer.specs.declared.section.Section.TheVariants.{Queries, Answers, Authorities, Additionals}
-
--- ---- codes
-
--- the codes of the types A, NS, AAAA and RRSIG (RFC 1035, section 3.2.2; RFC 3596, section 2.1; RFC 4034, section 3)
-abbrev pub a_code : ℕ
-a_code = 1
-
-abbrev pub ns_code : ℕ
-ns_code = 2
-
-abbrev pub aaaa_code : ℕ
-aaaa_code = 28
-
-abbrev pub rrsig_code : ℕ
-rrsig_code = 46
-
--- those that only questions have: IXFR (RFC 1995), AXFR (RFC 5936) and ANY, which asks for all types (RFC 1035, section 3.2.3)
-abbrev pub ixfr_code : ℕ
-ixfr_code = 251
-
-abbrev pub axfr_code : ℕ
-axfr_code = 252
-
-abbrev pub any_code : ℕ
-any_code = 255
 
 -- ---- what a message is for
 

@@ -1,7 +1,8 @@
 -- How a query begins (RFC 1035, section 4.1.1; RFC 6891, section 6.1).
 use Rattle.std.specs.Prelude.{◌≡◌, ◌<◌, ◌⊎◌, ℕ, Bool, Option, Some, None, List, [], length, if◌then◌else◌}
+use Rattle.dnw_base.specs.TypeCodes.{opt_code}
 use Rattle.dnw_message_writer.specs.Hints.{slot_of}
-use Rattle.dnw_message_writer.specs.Items.{opt_code, question_form, question_past}
+use Rattle.dnw_message_writer.specs.Items.{question_form, question_past}
 use Rattle.dnw_message_writer.specs.Listed.{data_form, data_past}
 use Rattle.dnw_message_writer.specs.Standing.{first_item}
 use Rattle.dnw_message_writer.specs.States.{AddsItem, BeginsMessage, FailsToAdd}

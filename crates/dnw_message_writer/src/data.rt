@@ -1,10 +1,11 @@
 //! The data of records as pieces, by the table of the fields of each type.
 ghost use Rattle.std.specs.Prelude.{◌≡◌, ◌≢◌, ◌↔◌, ◌+◌, ◌<◌, ◌≤◌, ◌∷◌, ◌++◌, [], ℕ, List, length, drop, take, IfSome, IfNone, IsTrue, true, false};
 ghost use Rattle.dnw_base.specs.Names.{AreLabels, wire};
+ghost use Rattle.dnw_base.specs.TypeCodes.{rrsig_code};
 ghost use Rattle.dnw_data.specs.Table.{fields_of};
 ghost use Rattle.dnw_data.specs.Values.{counted_size, own_size};
 ghost use Rattle.dnw_message_writer.specs.Data.{AreOfData, StartsNoName, are_to_compress, is_to_compress};
-ghost use Rattle.dnw_message_writer.specs.Inside.Splitting.{HasField, HasNoField, HasSigner, IsPlain, is_usual_name, last_compressed, most_pieces, rrsig_code};
+ghost use Rattle.dnw_message_writer.specs.Inside.Splitting.{HasField, HasNoField, HasSigner, IsPlain, is_usual_name, last_compressed, most_pieces};
 ghost use Rattle.dnw_message_writer.specs.declared.pieces.Piece.{Piece};
 ghost use Rattle.dnw_record.specs.DataPieces.{IsData};
 ghost use Rattle.dnw_record.specs.Inside.Copying.{IsNoName};
@@ -15,8 +16,10 @@ use dnw_base::decoder::BinDecoder;
 use dnw_base::dns_class::DNSClass;
 use dnw_base::limits::{MAX_LABEL, MAX_NAME};
 use dnw_base::record_type::RecordType;
+use dnw_base::type_codes::{A, AAAA, CNAME, MX, NS, PTR, RRSIG};
 use dnw_data::field::Field;
 use dnw_data::kind::{Kind, NameForm};
+use dnw_data::signature::BEFORE_SIGNER;
 use dnw_data::table::fields_of;
 use dnw_name_form::wire_labels::WireLabels;
 use std::marker::Model;
@@ -25,26 +28,10 @@ use std::marker::Model;
 const MOST_PIECES: usize = 3;
 
 /// The code of MX: no later type has a name that may be compressed (RFC 3597, section 4).
-const LAST_COMPRESSED: u16 = 15;
+const LAST_COMPRESSED: u16 = MX;
 
-// The codes of the class and the types of most data: an address, or a name alone.
+/// The code of the class IN.
 const IN: u16 = 1;
-
-const A: u16 = 1;
-
-const NS: u16 = 2;
-
-const CNAME: u16 = 5;
-
-const PTR: u16 = 12;
-
-const AAAA: u16 = 28;
-
-/// The code of RRSIG: it is by each set of records in a signed zone.
-const RRSIG: u16 = 46;
-
-/// The octets of the data of RRSIG before the name of the signer (RFC 4034, section 3.1).
-const BEFORE_SIGNER: usize = 18;
 
 /// The pieces of the data of a record.
 ///

@@ -1,8 +1,8 @@
 //! EDNS: an `OPT` record, and padding (RFC 6891, section 6.1; RFC 7830; RFC 8467).
 ghost use Rattle.std.specs.Prelude.{◌≡◌, ◌↔◌, ◌+◌, ◌<◌, ◌≤◌, ◌++◌, [], Some, None, take, IfErr, IfSome, IsTrue, MatchOption, OnErr, OnOk};
+ghost use Rattle.dnw_base.specs.TypeCodes.{opt_code};
 ghost use Rattle.dnw_message_read.specs.Edns.{HasOptions, first_option, option_of};
 ghost use Rattle.dnw_message_writer.specs.Edns.{AddsOpt, AddsOptItem, FailsToAddOpt, FailsToAddOptItem, ttl_of_edns, lacking, padding_size};
-ghost use Rattle.dnw_message_writer.specs.Items.{opt_code};
 ghost use Rattle.dnw_message_writer.specs.Listed.{data_form, data_past};
 ghost use Rattle.dnw_message_writer.specs.States.{AddsItem, FailsToAdd, released, room_of};
 ghost use Rattle.dnw_message_writer.specs.declared.section.Section.TheVariants as Sections;

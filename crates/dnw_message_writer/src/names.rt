@@ -1,5 +1,6 @@
 //! Names, written with pointers to where their suffixes stand (RFC 1035, section 4.1.4).
 ghost use Rattle.std.specs.Prelude.{◌≡◌, ◌↔◌, ◌<◌, ◌≤◌, ◌+◌, ◌/◌, ◌%◌, ◌++◌, ◌∷◌, [], ℕ, List, length, take, IsTrue, IfSome, IfNone, false};
+ghost use Rattle.dnw_base.specs.Limits.{pointer_offsets};
 ghost use Rattle.dnw_base.specs.Names.{AreLabels, encoded_size, wire};
 ghost use Rattle.dnw_message_writer.specs.CompressedNames.{Compresses, FindsHint, FindsNoHint, MayPointTo, PutsForm, PutsPast, kept_hints, put_at, pointer_octets, spelled};
 ghost use Rattle.dnw_message_writer.specs.Hints.{slot_of};
@@ -7,11 +8,8 @@ ghost use Rattle.dnw_message_writer.specs.Standing.{StandsSettled};
 
 use crate::hints::{FORMER, SLOTS, slot_of};
 use crate::standing::{FIRST_ITEM, stands_at, stands_before};
-use dnw_base::limits::POINTER_BITS;
+use dnw_base::limits::{POINTER_BITS, POINTER_OFFSETS};
 use dnw_name_form::wire_labels::WireLabels;
-
-/// A pointer holds one of as many offsets (RFC 1035, section 4.1.4).
-const POINTER_OFFSETS: usize = 16384;
 
 /// How a name is written.
 #[derive(Clone, Copy)]
@@ -54,7 +52,7 @@ fn spell(message: &[u8], gap: usize, hints: &mut [u16; SLOTS], labels: WireLabel
     requires { gap ≤ length message.now }
     ensures spells { Compresses slot_of message.now gap (length message.now) hints.old labels.entry (spelled labels.entry result) hints.new }
     ensures front { result.front ≤ encoded_size labels.entry }
-    ensures reached { IfSome result.pointer (λ target. target < 16384) }
+    ensures reached { IfSome result.pointer (λ target. target < pointer_offsets) }
 {
     let at = message.len();
     let mut rest = labels;
@@ -162,7 +160,7 @@ fn keep(hints: &mut [u16; SLOTS], slot: usize, offset: usize)
 /// Returns the octets of a pointer.
 #[inline(always)]
 pub(crate) fn pointer_octets(offset: u16) -> [u8; 2]
-    requires { offset < 16384 }
+    requires { offset < pointer_offsets }
     ensures { result ≡ pointer_octets offset }
 {
     [POINTER_BITS + (offset / 256) as u8, (offset % 256) as u8]

@@ -11,16 +11,12 @@ ghost use Rattle.dnw_name_text.specs.AsciiText.{name_text};
 ghost use Rattle.dnw_name_order.specs.Order.{name_cmp_case, name_eq_case, IsZoneOfCase};
 ghost use Rattle.dnw_name_order.specs.OrderLaws.{name_cmp_case_total, name_eq_case_equiv, name_case_ties, name_case_order};
 ghost use Rattle.dnw_name.specs.Decodable.{StopsSomehow};
-ghost use Rattle.dnw_write.specs.EmittedName.{EmitsName};
-ghost use Rattle.dnw_write.specs.NameFrames.{frame_name};
 ghost use Rattle.dnw_name_zones.specs.LowerNames.{lowered, IsLower, lower_name_from_text, TakesLowerName, lower_name_hash_input, lower_name_hash_alike};
 
 use dnw_base::decoder::BinDecoder;
 use dnw_base::error::{DecodeError, ProtoResult};
 use dnw_name::binary::BinDecodable;
 use dnw_name::name::Name;
-use dnw_write::binary::BinEncodable;
-use dnw_write::encoder::BinEncoder;
 use std::alloc::Global;
 use std::cmp::Ordering;
 use std::fmt;
@@ -250,16 +246,6 @@ impl Hash for LowerName {
     fn hash<H: Hasher>(&self, state: &mut H) {
         state.write(self.0.as_wire());
         self.is_fqdn().hash(state);
-    }
-}
-
-impl BinEncodable for LowerName {
-    ghost emits = { EmitsName };
-
-    ghost keeps_frame = { frame_name };
-
-    fn emit(&self, encoder: &mut BinEncoder<'_>) -> ProtoResult<()> {
-        self.0.emit(encoder)
     }
 }
 

@@ -1,4 +1,4 @@
--- Data that are copied, and data that are written and read again, have the kinds of field that they had.
+-- Data that are copied, or read elsewhere as the same pieces, have the kinds of field that they had.
 use Rattle.std.proofs.Common.{◌≡◌, ℕ, zero, suc, ◌+◌, ◌-◌, ◌<◌, ◌≤◌, ◌^◌, Bool, false, inl, inr, List, [], ◌∷◌, length, map, take, drop, slice_index, refl, sym, ap, ◌∙◌, subst, arith, length-drop}
 use Rattle.std.proofs.lemmas.Bool.{cases_Bool}
 use Rattle.std.proofs.lemmas.List.{length-take-le, nil_from_length}
@@ -8,7 +8,6 @@ use Rattle.dnw_base.specs.DnsClasses.{class_code, class_of_code}
 use Rattle.dnw_base.specs.RecordTypes.{type_code, type_of_code}
 use Rattle.dnw_base.specs.Decoder.{Decoder}
 use Rattle.dnw_name_read.proofs.Counts.{Reads_own}
-use Rattle.dnw_write.specs.declared.encoder.modes.NameEncoding.{NameEncoding}
 use Rattle.dnw_data.specs.declared.kind.Kind.{Kind}
 use Rattle.dnw_data.specs.declared.kind.Kind.TheVariants.{Name, Shaped}
 use Rattle.dnw_data.specs.Fields.{own_at, size_at}
@@ -17,11 +16,9 @@ use Rattle.dnw_data.proofs.Codes.{class_back, code_back}
 use Rattle.dnw_data.proofs.Rows.{Alike, alike_fields, first_of, size_some}
 use Rattle.dnw_record.specs.Records.{RecordValue}
 use Rattle.dnw_record.specs.declared.record.Record.{Record}
-use Rattle.dnw_record.specs.AnyRecordLaws.{written_pieces}
-use Rattle.dnw_record.specs.DataPieces.{DataPiece, HasPieces, IsData, data_kinds, kinds_of, name_piece, octets_of, octets_piece}
+use Rattle.dnw_record.specs.DataPieces.{DataPiece, HasPieces, IsData, data_kinds, kinds_of, octets_of, piece_octets}
 use Rattle.dnw_record.specs.DataCopies.{Copies, TakesOwnPiece, TakesPieces, alone, data_start, kinds_at, record_kinds}
-use Rattle.dnw_record.proofs.AnyRecords.{whole_pieces}
-use Rattle.dnw_record.proofs.Pieces.{are_pieces}
+use Rattle.dnw_record.proofs.Pieces.{are_pieces, whole_pieces}
 
 -- data of a type that is not IN's alone have the same fields in any class, if they are not left out
 pub known_anywhere : (class code : ℕ) (octets : List ℕ) → (octets ≡ [] → may_lack_data class code ≡ false) → is_internet_type code ≡ false
@@ -39,21 +36,6 @@ known_anywhere class code octets must known = by_octets octets must
 -- the octets that are left
 abbrev left_of : Decoder → List ℕ
 left_of d = drop d.index d.bytes
-
--- The first pieces are both names, or the same octets.
-abbrev FirstSame : List DataPiece → List DataPiece → Type 0
-FirstSame (octets_piece a ∷ ps) (octets_piece b ∷ qs) = a ≡ b
-FirstSame ps qs = Unit {0}
-
-first_itself : (pieces : List DataPiece) → FirstSame pieces pieces
-first_itself [] = tt
-first_itself (octets_piece own ∷ pieces) = refl
-first_itself (name_piece form labels ∷ pieces) = tt
-
-first_written : (mode : NameEncoding) (canonical : Bool) (pieces : List DataPiece) → FirstSame pieces (written_pieces mode canonical pieces)
-first_written mode canonical [] = tt
-first_written mode canonical (octets_piece own ∷ pieces) = refl
-first_written mode canonical (name_piece form labels ∷ pieces) = tt
 
 -- ---- one field that is no name
 
@@ -74,33 +56,29 @@ own_first : (kind : Kind) (a b : Decoder) → own_at kind a ≡ own_at kind b �
 own_first kind a b same =
     sym (first_of kind (left_of a) (own_at kind a) (own_is kind a)) ∙ ap (λ (o : List ℕ). slice_index o 0) same ∙ first_of kind (left_of b) (own_at kind b) (own_is kind b)
 
-same_own : (kind : Kind) (a b a' b' : Decoder) (p q : DataPiece) (ps qs : List DataPiece) → TakesOwnPiece kind a p a' → TakesOwnPiece kind b q b'
-    → FirstSame (p ∷ ps) (q ∷ qs) → (own_at kind a ≡ own_at kind b) × (size_at kind a ≤ length (left_of a))
-same_own kind a b a' b' p q ps qs (enough, right, is, there) (enough', right', is', there') same = (
-  subst (λ y. FirstSame (octets_piece (own_at kind a) ∷ ps) (y ∷ qs)) is' (subst (λ x. FirstSame (x ∷ ps) (q ∷ qs)) is same),
-  omega (arith, enough, length-drop a.index a.bytes),
-)
+same_own : (kind : Kind) (a b a' b' : Decoder) (p : DataPiece) → TakesOwnPiece kind a p a' → TakesOwnPiece kind b p b'
+    → (own_at kind a ≡ own_at kind b) × (size_at kind a ≤ length (left_of a))
+same_own kind a b a' b' p (enough, right, is, there) (enough', right', is', there') =
+    (ap piece_octets (sym is ∙ is'), omega (arith, enough, length-drop a.index a.bytes))
 
 -- ---- all fields
 
 at_end : (d : Decoder) → d.index ≡ length d.bytes → left_of d ≡ []
 at_end d end = nil_from_length (left_of d) (omega (arith, end, length-drop d.index d.bytes))
 
-alike : (kinds : List Kind) (a b : Decoder) (ps qs : List DataPiece) → TakesPieces kinds a ps → TakesPieces kinds b qs → FirstSame ps qs
+alike : (kinds : List Kind) (a b : Decoder) (pieces : List DataPiece) → TakesPieces kinds a pieces → TakesPieces kinds b pieces
     → Alike kinds (left_of a) (left_of b)
-alike [] a b [] [] end end' same = (at_end a end, at_end b end')
-alike [] a b (p ∷ ps) qs takes takes' same = absurd takes
-alike [] a b [] (q ∷ qs) takes takes' same = absurd takes'
-alike (kind ∷ kinds) a b [] qs takes takes' same = absurd takes
-alike (kind ∷ kinds) a b (p ∷ ps) [] takes takes' same = absurd takes'
-alike (Name form ∷ kinds) a b (p ∷ ps) (q ∷ qs) takes (after, (labels, k, name, is), more) same =
+alike [] a b [] end end' = (at_end a end, at_end b end')
+alike [] a b (p ∷ ps) takes takes' = absurd takes
+alike (kind ∷ kinds) a b [] takes takes' = absurd takes
+alike (Name form ∷ kinds) a b (p ∷ ps) takes (after, (labels, k, name, is), more) =
     let (later, inside) = Reads_own name.name.reads in
     λ none. absurd (omega (arith, later, inside, ap length none, length-drop b.index b.bytes))
-alike (Shaped shape ∷ kinds) a b (p ∷ ps) (q ∷ qs) (after, one, more) (after', one', more') same =
-    let (own, within) = same_own (Shaped shape) a b after after' p q ps qs one one' same in
+alike (Shaped shape ∷ kinds) a b (p ∷ ps) (after, one, more) (after', one', more') =
+    let (own, within) = same_own (Shaped shape) a b after after' p one one' in
     (own_none (Shaped shape) a b within own, own_first (Shaped shape) a b own)
-alike (kind ∷ kinds) a b (p ∷ ps) (q ∷ qs) (after, one, more) (after', one', more') same =
-    let (own, within) = same_own kind a b after after' p q ps qs one one' same in
+alike (kind ∷ kinds) a b (p ∷ ps) (after, one, more) (after', one', more') =
+    let (own, within) = same_own kind a b after after' p one one' in
     own_none kind a b within own
 
 -- ---- copies
@@ -111,7 +89,7 @@ copied_kinds class record_type d octets (pieces, takes, is) =
     let kinds = kinds_at class record_type d in
     let has : HasPieces kinds octets pieces = record { are = are_pieces kinds d pieces takes; whole = is } in
     alike_fields (class_code class) (type_code record_type) (left_of d) octets
-    (alike kinds d (alone octets) pieces pieces takes (whole_pieces kinds octets pieces has) (first_itself pieces))
+    (alike kinds d (alone octets) pieces takes (whole_pieces kinds octets pieces has))
 
 pub copied_data : (class : DNSClass) (record_type : RecordType) (d : Decoder) (octets : List ℕ) → Copies (kinds_at class record_type d) d octets
     → IsData (kinds_of class record_type octets) octets
@@ -122,14 +100,13 @@ copied_data class record_type d octets copied =
 
 -- ---- records that are read again
 
-pub read_kinds : (r : Record) (x : RecordValue) (pieces : List DataPiece) (mode : NameEncoding) (canonical : Bool)
+pub read_kinds : (r : Record) (x : RecordValue) (pieces : List DataPiece)
     → x.class ≡ class_of_code (class_code r.data.class) → x.record_type ≡ type_of_code (type_code r.data.record_type)
-    → HasPieces (data_kinds r.data) r.data.octets pieces → TakesPieces (data_kinds r.data) (data_start x) (written_pieces mode canonical pieces)
+    → HasPieces (data_kinds r.data) r.data.octets pieces → TakesPieces (data_kinds r.data) (data_start x) pieces
     → record_kinds x ≡ data_kinds r.data
-read_kinds r x pieces mode canonical class record_type has takes =
+read_kinds r x pieces class record_type has takes =
     let kinds = data_kinds r.data in
     let same_class : class_code x.class ≡ class_code r.data.class = ap class_code class ∙ class_back (class_code r.data.class) in
     let same_type : type_code x.record_type ≡ type_code r.data.record_type = ap type_code record_type ∙ code_back (type_code r.data.record_type) in
     rw (same_class, same_type) (alike_fields (class_code r.data.class) (type_code r.data.record_type) r.data.octets (left_of (data_start x))
-    (alike kinds (alone r.data.octets) (data_start x) pieces (written_pieces mode canonical pieces) (whole_pieces kinds r.data.octets pieces has) takes
-    (first_written mode canonical pieces)))
+    (alike kinds (alone r.data.octets) (data_start x) pieces (whole_pieces kinds r.data.octets pieces has) takes))

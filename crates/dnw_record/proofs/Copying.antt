@@ -12,7 +12,7 @@ use Rattle.dnw_data.specs.Values.{FieldValue}
 use Rattle.dnw_data.specs.Walks.{FieldsAre, IsAtEnd}
 use Rattle.dnw_data.proofs.Taking.{moves_on}
 use Rattle.dnw_data.proofs.Walking.{one_reading}
-use Rattle.dnw_record.specs.AnyRecordLaws.{piece_value, piece_values}
+use Rattle.dnw_record.specs.PieceLaws.{piece_value, piece_values}
 use Rattle.std.proofs.lemmas.Option.{none-some}
 use Rattle.dnw_record.specs.declared.rdata.RDataError.{RDataError}
 use Rattle.dnw_record.specs.declared.rdata.RDataError.TheVariants.{Field, Memory}

@@ -29,9 +29,9 @@ use Rattle.dnw_data.proofs.Shaping.{goes_to_end, long_is, shape_given}
 use Rattle.dnw_record.specs.declared.from_fields.FromFieldsError.{FromFieldsError}
 use Rattle.dnw_record.specs.DataPieces.{ArePiecesOf, DataPiece, HasPieces, IsData, IsPieceOf, name_piece, octets_of, octets_piece, piece_octets}
 use Rattle.dnw_record.specs.DataCopies.{alone}
-use Rattle.dnw_record.specs.AnyRecordLaws.{piece_value, piece_values}
+use Rattle.dnw_record.specs.PieceLaws.{piece_value, piece_values}
 use Rattle.dnw_record.specs.GivenFields.{AreFieldsOf, FailsGivenFields, IsFieldOf, front_of}
-use Rattle.dnw_record.proofs.AnyRecords.{data_have_fields}
+use Rattle.dnw_record.proofs.Pieces.{data_have_fields}
 
 -- ---- which kinds take all that is left: only the last of a type
 

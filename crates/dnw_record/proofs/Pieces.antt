@@ -17,12 +17,13 @@ use Rattle.dnw_data.specs.declared.kind.NameForm.{NameForm}
 use Rattle.dnw_data.specs.Fields.{own_at, size_at}
 use Rattle.dnw_data.specs.Values.{own_fault, own_size}
 use Rattle.dnw_data.specs.Walks.{IsAtEnd}
-use Rattle.dnw_record.specs.DataPieces.{ArePiecesOf, IsPieceOf, DataPiece, name_piece, octets_of, octets_piece, piece_octets}
-use Rattle.dnw_record.specs.DataCopies.{TakesOwnPiece, TakesPiece, TakesPieces}
+use Rattle.dnw_record.specs.DataPieces.{ArePiecesOf, HasPieces, IsPieceOf, DataPiece, name_piece, octets_of, octets_piece, piece_octets}
+use Rattle.dnw_record.specs.DataCopies.{TakesOwnPiece, TakesPiece, TakesPieces, alone}
+use Rattle.dnw_record.specs.PieceLaws.{DataHaveFields}
 use Rattle.dnw_record.specs.Inside.Copying.{IsNoName}
 use Rattle.dnw_data.proofs.Shaping.{long_same, shape_same}
 use Rattle.dnw_data.proofs.Taking.{moves_on}
-use Rattle.dnw_record.proofs.Copying.{takes_value}
+use Rattle.dnw_record.proofs.Copying.{take_values, takes_value}
 
 -- ---- sizes
 
@@ -164,3 +165,13 @@ pieces_unique (kind ∷ kinds) d (piece ∷ pieces) (piece' ∷ pieces') (after,
     let (same, there) = piece_unique kind d after after' piece piece' one one' in
     let rest = pieces_unique kinds after pieces pieces' more (subst (λ x. TakesPieces kinds x pieces') (sym there) more') in
     ap (λ p. p ∷ pieces) same ∙ ap (λ ps. piece' ∷ ps) rest
+
+-- ---- data that stand alone
+
+pub whole_pieces : (kinds : List Kind) (octets : List ℕ) (pieces : List DataPiece) → HasPieces kinds octets pieces → TakesPieces kinds (alone octets) pieces
+whole_pieces kinds octets pieces has = subst (λ o. TakesPieces kinds (alone o) pieces) (sym has.whole) (pieces_again kinds pieces [] has.are)
+
+pub data_have_fields : DataHaveFields
+data_have_fields kinds octets pieces has =
+    let takes = whole_pieces kinds octets pieces has in
+    (take_values 0 kinds (alone octets) pieces takes, λ others h. pieces_unique kinds (alone octets) others pieces (whole_pieces kinds octets others h) takes)

@@ -2,6 +2,7 @@
 use Rattle.std.specs.Prelude.{◌≡◌, ℕ, ◌+◌, ◌<◌, ◌≤◌, ◌^◌, ◌⊎◌, List, [], ◌∷◌, length}
 use Rattle.dnw_base.specs.declared.dns_class.DNSClass.{DNSClass}
 use Rattle.dnw_base.specs.declared.record_type.RecordType.{RecordType}
+use Rattle.dnw_base.specs.Limits.{max_data}
 use Rattle.dnw_base.specs.RecordTypes.{type_code as code_of, type_of_code}
 use Rattle.dnw_data.specs.declared.kind.Kind.{Kind}
 use Rattle.dnw_data.specs.declared.kind.Kind.TheVariants as kinds
@@ -31,7 +32,7 @@ IsFieldOf kinds.Ipv6 (ipv6 segments) = Unit {0}
 IsFieldOf kinds.TypeCode (type_code code) = type_of_code (code_of code) ≡ code
 IsFieldOf kinds.Time (time n) = Unit {0}
 IsFieldOf (kinds.Counted shown) (counted own) = length own ≤ 255
-IsFieldOf (kinds.LongCounted shown) (long_counted own) = length own ≤ 65535
+IsFieldOf (kinds.LongCounted shown) (long_counted own) = length own ≤ max_data
 IsFieldOf (kinds.Shaped shape) (shaped own) = own.shape ≡ shape
 IsFieldOf (kinds.Octets shown) (octets own) = Unit {0}
 IsFieldOf (kinds.List lists.Texts) (texts own) = (own.kind ≡ lists.Texts) × (1 ≤ length own.octets)

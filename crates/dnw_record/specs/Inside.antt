@@ -1,4 +1,2 @@
--- What no public clause cites: what the copy of data, and writing them, keep true as they go.
+-- What no public clause cites: what the copy of data keeps true as it goes.
 pub mod Copying
-pub mod Going
-pub mod Walking

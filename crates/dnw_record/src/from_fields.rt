@@ -7,6 +7,7 @@ ghost use Rattle.dnw_record.specs.GivenFields.{AreFieldsOf, FailsGivenFields, Is
 
 use crate::rdata::RData;
 use dnw_base::dns_class::DNSClass;
+use dnw_base::limits::MAX_DATA;
 use dnw_base::record_type::RecordType;
 use dnw_data::field::Field;
 use dnw_data::kind::{Kind, ListKind};
@@ -176,7 +177,7 @@ fn is_field_of(kind: Kind, field: &Field<'_>) -> bool
         (Kind::TypeCode, Field::TypeCode(code)) => RecordType::from(u16::from(*code)) == *code,
         (Kind::Time, Field::Time(_)) => true,
         (Kind::Counted(_), Field::Counted(octets)) => octets.len() <= 255,
-        (Kind::LongCounted(_), Field::LongCounted(octets)) => octets.len() <= 65535,
+        (Kind::LongCounted(_), Field::LongCounted(octets)) => octets.len() <= MAX_DATA,
         (Kind::Shaped(shape), Field::Shaped(shaped)) => shaped.shape() == shape,
         (Kind::Octets(_), Field::Octets(_)) => true,
         (Kind::List(ListKind::Texts), Field::Texts(items)) => {

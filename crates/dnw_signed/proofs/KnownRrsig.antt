@@ -24,7 +24,7 @@ use Rattle.dnw_record.specs.DataCopies.{TakesPieces, data_start, record_kinds}
 use Rattle.dnw_record.specs.DataPieces.{DataPiece, name_piece, octets_of, octets_piece}
 use Rattle.dnw_record.specs.Records.{RecordValue}
 use Rattle.dnw_signed.specs.Covering.{HasRrsigType, IsRrsigOf}
-use Rattle.dnw_signed.specs.SignedFields.{before_signer}
+use Rattle.dnw_data.specs.Signature.{before_signer}
 use Rattle.dnw_signed.specs.Inside.Selecting.{KnowsZone}
 use Rattle.dnw_signed.proofs.Rrsigs.{IsFixed, all_fixed, fixed_kinds, rrsig_kinds, sizes}
 

@@ -3,7 +3,7 @@ use Rattle.std.proofs.Common.{◌≡◌, ℕ, List, [], ◌∷◌, ◌⊎◌, in
 use Rattle.std.specs.List.{Contains}
 use Rattle.dnw_record.specs.declared.record.Record.{Record}
 use Rattle.dnw_record.specs.DataPieces.{DataValue, octets_of}
-use Rattle.dnw_record.proofs.AnyRecords.{data_have_fields}
+use Rattle.dnw_record.proofs.Pieces.{data_have_fields}
 use Rattle.dnw_signed.specs.CanonicalData.{IsCanonical, canonical_pieces}
 use Rattle.dnw_signed.specs.CanonicalLaws.{IsLikeData}
 use Rattle.dnw_signed.specs.RecordSets.{AreCanonical}

@@ -15,7 +15,7 @@ use Rattle.dnw_record.specs.Records.{RecordValue}
 use Rattle.dnw_record.specs.DataCopies.{Copies, FailsPiece, TakesPiece, alone, data_start, record_kinds}
 use Rattle.dnw_record.specs.DataPieces.{DataPiece, DataValue, HasPieces, IsDataOfType, data_kinds, name_piece, octets_of, octets_piece, piece_octets}
 use Rattle.dnw_record.proofs.Alike.{copied_kinds}
-use Rattle.dnw_record.proofs.AnyRecords.{whole_pieces}
+use Rattle.dnw_record.proofs.Pieces.{whole_pieces}
 use Rattle.dnw_record.proofs.Copying.{begins, goes-on, left-over, stops}
 use Rattle.dnw_record.proofs.Pieces.{are_pieces, pieces_unique}
 use Rattle.dnw_signed.specs.CanonicalData.{IsCanonical, IsCanonicalOf, ReadsCanonical, canonical_piece, canonical_pieces}

@@ -21,7 +21,8 @@ use Rattle.dnw_record.specs.DataPieces.{ArePiecesOf, DataPiece, DataValue, HasPi
 use Rattle.dnw_record.specs.Inside.Copying.{IsNoName}
 use Rattle.dnw_name_form.proofs.LowerWires.{AreLabels_lower}
 use Rattle.dnw_signed.specs.CanonicalData.{IsCanonical, canonical_labels, canonical_pieces}
-use Rattle.dnw_signed.specs.SignedFields.{IsRrsig, IsSignedFields, before_signer}
+use Rattle.dnw_data.specs.Signature.{before_signer}
+use Rattle.dnw_signed.specs.SignedFields.{IsRrsig, IsSignedFields}
 
 -- a field of this kind takes the same number of octets whatever is left
 pub record IsFixed (kind : Kind) : Type 0 where

@@ -13,7 +13,7 @@ use Rattle.dnw_record.specs.Records.{RecordValue}
 use Rattle.dnw_record.specs.declared.rdata.RDataError.TheVariants as rdata
 use Rattle.dnw_signed.specs.Covering.{AreCovered, FailsCovered, FirstFails, IsCovered, IsRightRrsig, IsRrsigOf, IsSigned, IsTooLong, LacksCanonical, LacksPointers, Selects, SignsFor, next_record, none_left, signed_head}
 use Rattle.dnw_signed.specs.RecordSets.{IsInOrder, set_record}
-use Rattle.dnw_signed.specs.SignedFields.{before_signer}
+use Rattle.dnw_data.specs.Signature.{before_signer}
 use Rattle.dnw_signed.specs.declared.data_list.DataList.{DataList}
 use Rattle.dnw_signed.specs.declared.error.CanonicalError.{CanonicalError}
 use Rattle.dnw_signed.specs.declared.error.CanonicalError.TheVariants as why

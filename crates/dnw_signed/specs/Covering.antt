@@ -15,7 +15,8 @@ use Rattle.dnw_record.specs.declared.rdata.RDataError.TheVariants as rdata
 use Rattle.dnw_signed.specs.CanonicalData.{FailsCanonical, IsCanonicalOf}
 use Rattle.dnw_record.specs.DataPointers.{TakesDataPointers}
 use Rattle.dnw_signed.specs.RecordSets.{IsInOrder, head_octets, set_record}
-use Rattle.dnw_signed.specs.SignedFields.{IsSignedFields, before_signer}
+use Rattle.dnw_data.specs.Signature.{before_signer}
+use Rattle.dnw_signed.specs.SignedFields.{IsSignedFields}
 use Rattle.dnw_signed.specs.declared.error.CanonicalError.{CanonicalError}
 use Rattle.dnw_signed.specs.declared.error.CanonicalError.TheVariants as why
 

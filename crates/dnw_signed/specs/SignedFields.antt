@@ -3,14 +3,10 @@ use Rattle.std.specs.Prelude.{◌≡◌, ◌≤◌, ℕ, List, ◌++◌, length}
 use Rattle.dnw_base.specs.RecordTypes.{type_code}
 use Rattle.dnw_base.specs.declared.record_type.RecordType.TheVariants.{RRSIG}
 use Rattle.dnw_base.specs.Names.{AreLabels, lower, wire}
+use Rattle.dnw_data.specs.Signature.{before_signer}
 use Rattle.dnw_record.specs.DataPieces.{DataValue}
 use Rattle.dnw_signed.specs.declared.error.CanonicalError.{CanonicalError}
 use Rattle.dnw_signed.specs.declared.error.CanonicalError.TheVariants.{Memory, NotRrsig}
-
--- the octets before the signer's name: the type covered, the algorithm, the labels, the original time to live, the expiration,
--- the inception and the key tag
-abbrev pub before_signer : ℕ
-before_signer = 18
 
 -- The data are those of an RRSIG, and are not left out (RFC 2136, section 2.4).
 abbrev pub IsRrsig : DataValue → Type 0

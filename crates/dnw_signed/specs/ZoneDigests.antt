@@ -10,6 +10,7 @@ use Rattle.dnw_base.specs.RecordTypes.{type_code}
 use Rattle.dnw_base.specs.DnsClasses.{class_code}
 use Rattle.dnw_base.specs.Limits.{max_message}
 use Rattle.dnw_base.specs.Names.{lower, wire}
+use Rattle.dnw_base.specs.TypeCodes.{rrsig_code, zonemd_code}
 use Rattle.dnw_name_form.specs.LabelOrder.{octets_cmp}
 use Rattle.dnw_name_order.specs.Order.{IsZoneOf, labels_cmp}
 use Rattle.dnw_record.specs.declared.record.Record.{Record}
@@ -55,13 +56,6 @@ abbrev pub zone_cmp : CanonicalRecord → CanonicalRecord → Ordering
 zone_cmp = then_cmp place_cmp (on (λ z. z.ttl) nat_cmp)
 
 -- ---- which records are digested
-
--- the types ZONEMD (RFC 8976, section 5.1) and RRSIG (RFC 4034, section 3)
-abbrev pub zonemd_code : ℕ
-zonemd_code = 63
-
-abbrev pub rrsig_code : ℕ
-rrsig_code = 46
 
 -- the data of an RRSIG, which begin with the type that it covers (RFC 4034, section 3.1.1), cover ZONEMD
 abbrev pub covers_zonemd : List ℕ → Bool

@@ -15,13 +15,11 @@ use crate::set::{SetHead, TYPE_CLASS_TTL, append_head, append_set, make_set};
 use dnw_base::decoder::BinDecoder;
 use dnw_base::limits::{MAX_MESSAGE, MAX_NAME};
 use dnw_base::record_type::RecordType;
+use dnw_data::signature::BEFORE_SIGNER;
 use dnw_name::name_ref::NameRef;
 use dnw_record::rdata::RData;
 use dnw_record::record::Record;
 use std::alloc::{AllocError, Global};
-
-/// The octets before the signer's name in the data of an RRSIG (RFC 4034, section 3.1).
-pub(crate) const BEFORE_SIGNER: usize = 18;
 
 /// Returns the octets of a set of records that a signature covers, after those of `signed_fields` (RFC 4034, section 3.1.8.1).
 ///

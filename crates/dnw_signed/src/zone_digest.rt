@@ -13,7 +13,7 @@ use crate::ds::{Digest, digest_of};
 use crate::error::DnssecError;
 use crate::fields::canonical_octets;
 use dnw_base::limits::MAX_MESSAGE;
-use dnw_base::record_type::RecordType;
+use dnw_base::type_codes::{RRSIG, ZONEMD};
 use dnw_name::name::Name;
 use dnw_record::rdata::RData;
 use dnw_record::record::Record;
@@ -21,9 +21,6 @@ use sha2::{Digest as HashFunction, Sha384, Sha512};
 use std::alloc::{AllocError, Global};
 use std::cmp::Ordering;
 use std::marker::Model;
-
-/// The type ZONEMD (RFC 8976, section 5.1).
-const ZONEMD: u16 = 63;
 
 /// A record with its data in canonical form.
 #[derive(Drop)]
@@ -158,7 +155,7 @@ fn is_of_zonemd(data: &RData) -> bool
     ensures { result ≡ is_of_zonemd (type_code «data».now.record_type) «data».now.octets }
 {
     let code = u16::from(data.record_type());
-    code == ZONEMD || (code == u16::from(RecordType::RRSIG) && covers_zonemd(data.octets()))
+    code == ZONEMD || (code == RRSIG && covers_zonemd(data.octets()))
 }
 
 /// Returns `true` if the data of an RRSIG cover ZONEMD: they begin with its code (RFC 4034, section 3.1.1).

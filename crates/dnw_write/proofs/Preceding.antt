@@ -11,7 +11,7 @@ use Rattle.dnw_write_suffixes.proofs.CandidateLists.{kept_all}
 use Rattle.dnw_write.specs.Encoder.{CandidatesPrecede, Encoder, TakesRoom, takes_candidate, written}
 use Rattle.dnw_write.specs.Emitting.{Emits, Outcome}
 use Rattle.dnw_write.specs.EmittedName.{EmitsAs, Share, emitted, in_mode, kept, newly_kept, pointer_to}
-use Rattle.dnw_write.specs.Checkpoints.{RewindingUndoes}
+use Rattle.dnw_write.specs.Marks.{RewindingUndoes}
 use Rattle.dnw_write.specs.NameFrames.{within_kept}
 use Rattle.dnw_write.specs.CandidateLaws.{FillsPrecede, ItemPrecedes, ItemsPrecede, NamesPrecede, NewPrecede, PlacesPrecede, RewindsPrecede, StoresPrecede, TextsPrecede, TrimsPrecede, WritesPrecede}
 
@@ -111,7 +111,7 @@ pub trims_precede : TrimsPrecede
 trims_precede v = left_before v.offset v.candidates
 
 pub rewinds_precede : RewindsPrecede
-rewinds_precede v checkpoint = left_before checkpoint.offset v.candidates
+rewinds_precede v mark = left_before mark.offset v.candidates
 
 pub items_precede : {X : Type 0} (emits : Emits X) → ItemsPrecede emits
 items_precede emits keeps v w [] precede h = subst CandidatesPrecede (sym h) precede

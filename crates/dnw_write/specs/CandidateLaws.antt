@@ -6,7 +6,7 @@ use Rattle.dnw_write_suffixes.specs.Candidates.{Candidate}
 use Rattle.dnw_write.specs.Encoder.{CandidatesPrecede, Encoder, Stores, Writes, WritesText, fresh, reserved, trimmed}
 use Rattle.dnw_write.specs.Emitting.{EmitsItem, Emits, FillsPlace, InTurn, Outcome}
 use Rattle.dnw_write.specs.EmittedName.{EmitsName}
-use Rattle.dnw_write.specs.Checkpoints.{CheckpointValue, rewound}
+use Rattle.dnw_write.specs.Marks.{MarkValue, rewound}
 
 -- A write keeps every candidate before the offset, whether it succeeds or fails.
 abbrev pub KeepsPreceding : (Encoder → Outcome → Encoder → Type 0) → Type 0
@@ -41,7 +41,7 @@ abbrev pub TrimsPrecede : Type 0
 TrimsPrecede = (v : Encoder) → CandidatesPrecede (trimmed v)
 
 abbrev pub RewindsPrecede : Type 0
-RewindsPrecede = (v : Encoder) (checkpoint : CheckpointValue) → CandidatesPrecede (rewound v checkpoint)
+RewindsPrecede = (v : Encoder) (mark : MarkValue) → CandidatesPrecede (rewound v mark)
 
 -- Items in turn keep it if each item does, and so does the one that is rolled back.
 abbrev pub ItemsPrecede : {X : Type 0} → Emits X → Type 0

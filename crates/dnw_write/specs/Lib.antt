@@ -5,7 +5,7 @@ pub mod EmittedName
 pub mod EmittingLaws
 pub mod NameFrames
 pub mod Guards
-pub mod Checkpoints
+pub mod Marks
 pub mod EncoderLaws
 pub mod CandidateLaws
 pub mod Inside

@@ -18,6 +18,7 @@ use dnw_base::record_type::RecordType;
 use std::alloc::Global;
 
 mod name;
+mod rooms;
 
 /// A type that can be written into messages.
 ///

@@ -11,15 +11,15 @@ use dnw_base::limits::{MAX_CHARACTER_DATA, MAX_MESSAGE, POINTER_REACH};
 use dnw_write_suffixes::candidates::Candidates;
 use std::alloc::AllocError;
 
-mod checkpoint;
 mod items;
 pub mod laws;
+mod marks;
 mod modal;
 mod modes;
 mod names;
 mod place;
 
-pub use checkpoint::Checkpoint;
+pub use marks::Mark;
 pub use modal::ModalEncoder;
 pub use modes::{NameEncoding, RDataEncoding};
 pub use place::Place;

@@ -5,8 +5,8 @@ use Rattle.std.specs.Int.{w16, to_be_bytes}
 use Rattle.std.proofs.lemmas.List.{length-append, append-nil}
 use Rattle.dnw_write.specs.declared.encoder.modes.NameEncoding.{NameEncoding}
 use Rattle.dnw_name_read.proofs.Back.{slice_range_middle}
-use Rattle.dnw_record.specs.declared.wire_record.WireRecord.{WireRecord}
-use Rattle.dnw_record.specs.Parts.{WirePart, name_part}
+use Rattle.dnw_write_script.specs.declared.wire_record.WireRecord.{WireRecord}
+use Rattle.dnw_write_script.specs.Parts.{WirePart, name_part}
 use Rattle.dnw_write_script.specs.Pieces.{BytesStand, Piece, PieceAt, PiecesLie, filled_in, place_piece, record_piece, wire_piece}
 
 -- What is written at once: a part, or a record by the mode and in canonical form or not.

@@ -1,3 +1,10 @@
+pub mod Parts
+pub mod Laying
+pub mod Bounded
+pub mod Preceding
+pub mod Kept
+pub mod Going
+pub mod WireRecords
 pub mod WireParts
 pub mod Lists
 pub mod Placing

@@ -5,10 +5,10 @@ use Rattle.dnw_base.specs.DnsClasses.{class_code}
 use Rattle.dnw_name_read.proofs.Counts.{Reads_own}
 use Rattle.dnw_write.specs.declared.encoder.modes.NameEncoding.{NameEncoding}
 use Rattle.dnw_write.specs.EmittedName.{in_mode}
-use Rattle.dnw_record.specs.declared.wire_record.WireData.{WireData}
-use Rattle.dnw_record.specs.declared.wire_record.WireData.TheVariants as rdata
+use Rattle.dnw_write_script.specs.declared.wire_record.WireData.{WireData}
+use Rattle.dnw_write_script.specs.declared.wire_record.WireData.TheVariants as rdata
 use Rattle.dnw_record.specs.Records.{RecordValue, record_of}
-use Rattle.dnw_record.proofs.Laying.{read_after}
+use Rattle.dnw_write_script.proofs.Laying.{read_after}
 use Rattle.dnw_write_script.specs.Pieces.{DataStand}
 use Rattle.dnw_write_script.specs.ScriptLaws.{HasData, StandingRecordsAreRead}
 

@@ -9,10 +9,10 @@ use Rattle.std.specs.declared.vec.Vec.{Vec}
 use Rattle.dnw_base.specs.declared.error.ProtoError.{ProtoError}
 use Rattle.dnw_write.specs.Encoder.{Encoder}
 use Rattle.dnw_write.specs.EmittingLaws.{take_all_lem}
-use Rattle.dnw_record.specs.declared.wire_record.WireRecord.{WireRecord}
-use Rattle.dnw_record.specs.WrittenRecords.{EmitsRecord}
-use Rattle.dnw_record.specs.Parts.{WirePart, name_part}
-use Rattle.dnw_record.proofs.Bounded.{part_stays_bounded, parts_stay_bounded}
+use Rattle.dnw_write_script.specs.declared.wire_record.WireRecord.{WireRecord}
+use Rattle.dnw_write_script.specs.WrittenRecords.{EmitsRecord}
+use Rattle.dnw_write_script.specs.Parts.{WirePart, name_part}
+use Rattle.dnw_write_script.proofs.Bounded.{part_stays_bounded, parts_stay_bounded}
 use Rattle.dnw_write_script.specs.declared.script.Reply.{Reply}
 use Rattle.dnw_write_script.specs.Script.{Action, action, item_parts, set_max, wire_part, write, write_items}
 use Rattle.dnw_write_script.specs.Pieces.{Account, PiecesLie, after_action, opening, account_from, Slot}

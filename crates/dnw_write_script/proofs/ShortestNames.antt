@@ -16,7 +16,7 @@ use Rattle.dnw_write.specs.EmittingLaws.{take_all_lem}
 use Rattle.dnw_write.specs.NameFrames.{frame_name}
 use Rattle.dnw_write.proofs.NameBack.{each_back, pointers_save}
 use Rattle.dnw_write.proofs.Suffixes.{length_all}
-use Rattle.dnw_record.specs.RecordFrames.{frame_grows}
+use Rattle.dnw_write_script.specs.RecordFrames.{frame_grows}
 use Rattle.dnw_write_script.specs.declared.script.Part.TheVariants.{Name}
 use Rattle.dnw_write_script.specs.declared.script.Reply.{Reply}
 use Rattle.dnw_write_script.specs.declared.script.Reply.TheVariants.{Done, Refused}
@@ -27,7 +27,7 @@ use Rattle.dnw_write_script.specs.Finished.{AreNames, EndsIn, IsEndOf, IsShortes
 use Rattle.dnw_write_script.specs.ScriptLaws.{RunsAreShortest}
 use Rattle.dnw_write_script.proofs.Chunks.{Chunk}
 use Rattle.dnw_write_suffixes.proofs.CandidateLists.{between}
-use Rattle.dnw_record.proofs.Kept.{back_least, back_of, each-kept, emitted_candidates, emitted_names, front_of, in_mode_compressed, kept-few, kept-new, length_in_mode, size_back, suffix-split, suffix_within, target_has}
+use Rattle.dnw_write_script.proofs.Kept.{back_least, back_of, each-kept, emitted_candidates, emitted_names, front_of, in_mode_compressed, kept-few, kept-new, length_in_mode, size_back, suffix-split, suffix_within, target_has}
 use Rattle.dnw_write_script.proofs.Standing.{holds_now, same_labels, usable_precede, usable_read}
 use Rattle.dnw_write_script.proofs.Stepping.{Good, good_beginning, part_same, step}
 

@@ -17,14 +17,14 @@ use Rattle.dnw_write.specs.EmittingLaws.{frame, frame_same, frames_follow}
 use Rattle.dnw_write.specs.Emitting.{Frame}
 use Rattle.dnw_write.specs.NameFrames.{frame_name}
 use Rattle.dnw_write.proofs.NameBack.{names_take_no_more, size_in_mode, Reads_shared, each_back, each_front}
-use Rattle.dnw_record.specs.declared.wire_record.WireRecord.{WireRecord}
-use Rattle.dnw_record.specs.declared.wire_record.WireData.{WireData}
-use Rattle.dnw_record.specs.declared.wire_record.WireData.TheVariants as rdata
-use Rattle.dnw_record.specs.Parts.{EmitsWirePart, EmitsWireParts, WirePart, bytes_part, in_encoding, name_part, text_part, with_length}
-use Rattle.dnw_record.specs.RecordFrames.{frame_reserved, frame_wire_part}
-use Rattle.dnw_record.specs.WrittenRecords.{EmitsData, EmitsFields, NumbersFit, wire_fixed}
+use Rattle.dnw_write_script.specs.declared.wire_record.WireRecord.{WireRecord}
+use Rattle.dnw_write_script.specs.declared.wire_record.WireData.{WireData}
+use Rattle.dnw_write_script.specs.declared.wire_record.WireData.TheVariants as rdata
+use Rattle.dnw_write_script.specs.Parts.{EmitsWirePart, EmitsWireParts, WirePart, bytes_part, in_encoding, name_part, text_part, with_length}
+use Rattle.dnw_write_script.specs.RecordFrames.{frame_reserved, frame_wire_part}
+use Rattle.dnw_write_script.specs.WrittenRecords.{EmitsData, EmitsFields, NumbersFit, wire_fixed}
 use Rattle.dnw_name_read.proofs.Copying.{slice_range_split}
-use Rattle.dnw_record.proofs.Laying.{added, emitted_bytes, filled_bytes, full_size, reserved_bytes}
+use Rattle.dnw_write_script.proofs.Laying.{added, emitted_bytes, filled_bytes, full_size, reserved_bytes}
 use Rattle.dnw_base.specs.Labels.{IsLabel}
 use Rattle.dnw_name_form.specs.Inside.WireBytes.{labels_of}
 use Rattle.dnw_name_form.proofs.Wires.{labels_of_wire}
@@ -32,7 +32,7 @@ use Rattle.dnw_name_read.specs.Reading.{Reads, NameAt}
 use Rattle.dnw_name_read.proofs.Back.{Reads_wire}
 use Rattle.dnw_name_read.proofs.Counts.{Reads_labels, Reads_own}
 use Rattle.dnw_name_read.proofs.Stand.{Reads_append}
-use Rattle.dnw_record.proofs.Kept.{back_of, both_parts, each-kept, emitted_candidates, form_tail, front_of, size_back, suffix-split, tail_of, target_has}
+use Rattle.dnw_write_script.proofs.Kept.{back_of, both_parts, each-kept, emitted_candidates, form_tail, front_of, size_back, suffix-split, tail_of, target_has}
 use Rattle.dnw_write_script.specs.Pieces.{BytesStand, DataStand, NameStands, PieceAt, RecordStands, wire_piece}
 use Rattle.dnw_write_script.proofs.Chunks.{Begins, Chunk, Content, MayBe, Standing, Stands, begins_first, begins_laid, begins_others, begins_split, bytes_stand, bytes_of, ends_of, laid, of_part, piece_in, piece_of, place, standing_join, standing_split, upto, upto_laid, wrote}
 use Rattle.dnw_write_script.specs.Runs.{IsUsefulIn}

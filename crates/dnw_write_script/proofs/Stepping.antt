@@ -9,14 +9,14 @@ use Rattle.dnw_base.specs.declared.error.ProtoError.TheVariants.{MaxBufferSizeEx
 use Rattle.dnw_base.specs.Limits.{max_message}
 use Rattle.dnw_write.specs.Encoder.{Encoder, filled, moved_to, reserved, TakesRoom, Writes, WritesText, written}
 use Rattle.dnw_write.specs.Emitting.{Frame, InTurn, rolled_back, list_error}
-use Rattle.dnw_record.specs.declared.wire_record.WireRecord.{WireRecord}
-use Rattle.dnw_record.specs.Parts.{EmitsWirePart, EmitsWireParts, parts_size, WirePart, bytes_part, in_encoding, name_part, text_part}
-use Rattle.dnw_record.specs.RecordFrames.{frame_fields, frame_reserved, frame_wire_part}
-use Rattle.dnw_record.specs.RecordLaws.{record_size, FailsForSize}
-use Rattle.dnw_record.specs.WrittenRecords.{EmitsRecord}
-use Rattle.dnw_record.proofs.Bounded.{parts_stay_bounded}
-use Rattle.dnw_record.proofs.Preceding.{refused_records_undo}
-use Rattle.dnw_record.proofs.Parts.{done_parts, fits_fields, Refuses, refused_part, refused_parts, refused_room, done_part, room_most}
+use Rattle.dnw_write_script.specs.declared.wire_record.WireRecord.{WireRecord}
+use Rattle.dnw_write_script.specs.Parts.{EmitsWirePart, EmitsWireParts, parts_size, WirePart, bytes_part, in_encoding, name_part, text_part}
+use Rattle.dnw_write_script.specs.RecordFrames.{frame_fields, frame_reserved, frame_wire_part}
+use Rattle.dnw_write_script.specs.RecordLaws.{record_size, FailsForSize}
+use Rattle.dnw_write_script.specs.WrittenRecords.{EmitsRecord}
+use Rattle.dnw_write_script.proofs.Bounded.{parts_stay_bounded}
+use Rattle.dnw_write_script.proofs.Preceding.{refused_records_undo}
+use Rattle.dnw_write_script.proofs.Parts.{done_parts, fits_fields, Refuses, refused_part, refused_parts, refused_room, done_part, room_most}
 use Rattle.dnw_base.specs.Names.{encoded_size}
 use Rattle.dnw_write.specs.declared.encoder.modes.NameEncoding.{NameEncoding}
 use Rattle.dnw_write.specs.EmittedName.{EmitsAs, Share, in_mode, room_for}

@@ -5,8 +5,8 @@ use Rattle.dnw_base.specs.declared.error.ProtoError.TheVariants.{CharacterDataTo
 use Rattle.dnw_write.specs.declared.encoder.modes.NameEncoding.{NameEncoding}
 use Rattle.dnw_write.specs.Encoder.{Encoder, Writes, WritesText}
 use Rattle.dnw_write.specs.Emitting.{Outcome, InTurn}
-use Rattle.dnw_record.specs.Parts.{EmitsWirePart, EmitsWireParts, in_encoding}
-use Rattle.dnw_record.proofs.Parts.{parts_follow}
+use Rattle.dnw_write_script.specs.Parts.{EmitsWirePart, EmitsWireParts, in_encoding}
+use Rattle.dnw_write_script.proofs.Parts.{parts_follow}
 use Rattle.dnw_write_script.specs.declared.script.Part.{Part}
 use Rattle.dnw_write_script.specs.declared.script.Part.TheVariants.{Name, U8, U16, I32, U32, Bytes, Text}
 use Rattle.dnw_write_script.specs.declared.script.Item.{Item}

@@ -5,7 +5,7 @@ use Rattle.dnw_write.specs.Encoder.{Encoder}
 use Rattle.dnw_write.specs.Emitting.{Outcome, Frame}
 use Rattle.dnw_write.specs.EmittingLaws.{frame, frame_same, frame_text, frames_follow}
 use Rattle.dnw_write.specs.NameFrames.{frame_name}
-use Rattle.dnw_record.specs.RecordFrames.{frame_in_mode}
+use Rattle.dnw_write_script.specs.RecordFrames.{frame_in_mode}
 use Rattle.dnw_write_script.specs.declared.script.Part.{Part}
 use Rattle.dnw_write_script.specs.declared.script.Part.TheVariants.{Name, U8, U16, I32, U32, Bytes, Text}
 use Rattle.dnw_write_script.specs.declared.script.Item.{Item}

@@ -1,3 +1,8 @@
+pub mod Parts
+pub mod WrittenRecords
+pub mod RecordFrames
+pub mod RecordLaws
+pub mod WireRecords
 pub mod Script
 pub mod Pieces
 pub mod Replies

@@ -10,13 +10,13 @@ use Rattle.dnw_base.specs.DnsClasses.{class_code}
 use Rattle.dnw_base.specs.Limits.{max_message}
 use Rattle.dnw_base.specs.Names.{encoded_size}
 use Rattle.dnw_name_read.specs.Reading.{NameAt}
-use Rattle.dnw_record.specs.declared.wire_record.WireRecord.{WireRecord}
-use Rattle.dnw_record.specs.declared.wire_record.WireData.{WireData}
-use Rattle.dnw_record.specs.declared.wire_record.WireData.TheVariants as rdata
-use Rattle.dnw_record.specs.Parts.{WirePart, bytes_part, name_part, text_part}
+use Rattle.dnw_write_script.specs.declared.wire_record.WireRecord.{WireRecord}
+use Rattle.dnw_write_script.specs.declared.wire_record.WireData.{WireData}
+use Rattle.dnw_write_script.specs.declared.wire_record.WireData.TheVariants as rdata
+use Rattle.dnw_write_script.specs.Parts.{WirePart, bytes_part, name_part, text_part}
 use Rattle.dnw_record.specs.Records.{fixed_size}
-use Rattle.dnw_record.specs.RecordLaws.{fixed_and_length}
-use Rattle.dnw_record.specs.WrittenRecords.{NumbersFit}
+use Rattle.dnw_write_script.specs.RecordLaws.{fixed_and_length}
+use Rattle.dnw_write_script.specs.WrittenRecords.{NumbersFit}
 use Rattle.dnw_write_script.specs.declared.script.Reply.{Reply}
 use Rattle.dnw_write_script.specs.declared.script.Reply.TheVariants.{Done, Refused, Items}
 use Rattle.dnw_write_script.specs.Script.{Action, write, set_max, set_encoding, set_canonical, reserve, fill, write_record, write_items, items_parts, wire_part}

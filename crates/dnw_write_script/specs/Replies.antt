@@ -4,8 +4,8 @@ use Rattle.dnw_base.specs.declared.error.ProtoError.{ProtoError}
 use Rattle.dnw_base.specs.declared.error.ProtoError.TheVariants.{CharacterDataTooLong, MaxBufferSizeExceeded, NotAllRecordsWritten, Memory}
 use Rattle.dnw_base.specs.Limits.{max_character_data}
 use Rattle.dnw_base.specs.Names.{encoded_size}
-use Rattle.dnw_record.specs.Parts.{HasTextOfSize, WirePart, bytes_part, name_part, parts_size, text_part}
-use Rattle.dnw_record.specs.RecordLaws.{record_size}
+use Rattle.dnw_write_script.specs.Parts.{HasTextOfSize, WirePart, bytes_part, name_part, parts_size, text_part}
+use Rattle.dnw_write_script.specs.RecordLaws.{record_size}
 use Rattle.dnw_write_script.specs.declared.script.Item.{Item}
 use Rattle.dnw_write_script.specs.declared.script.Reply.{Reply}
 use Rattle.dnw_write_script.specs.declared.script.Reply.TheVariants.{Done, Refused, NoPlace, Items}

@@ -9,7 +9,7 @@ use Rattle.dnw_write.specs.EmittedName.{so_far}
 use Rattle.dnw_base.specs.Limits.{max_message}
 use Rattle.dnw_base.specs.Names.{labels_wire}
 use Rattle.dnw_name_read.specs.Reading.{NameAt}
-use Rattle.dnw_record.specs.WrittenRecords.{EmitsRecord}
+use Rattle.dnw_write_script.specs.WrittenRecords.{EmitsRecord}
 use Rattle.dnw_write_script.specs.declared.script.Item.{Item}
 use Rattle.dnw_write_script.specs.declared.script.Reply.{Reply}
 use Rattle.dnw_write_script.specs.declared.script.Reply.TheVariants.{Done, Refused, NoPlace, Items}

@@ -6,8 +6,8 @@ use Rattle.dnw_write.specs.declared.encoder.modes.NameEncoding.{NameEncoding}
 use Rattle.dnw_write.specs.Encoder.{Encoder, Writes, WritesText}
 use Rattle.dnw_write.specs.Emitting.{Emits}
 use Rattle.dnw_write.specs.EmittedName.{EmitsName}
-use Rattle.dnw_record.specs.Parts.{WirePart, bytes_part, name_part, text_part}
-use Rattle.dnw_record.specs.declared.wire_record.WireRecord.{WireRecord}
+use Rattle.dnw_write_script.specs.Parts.{WirePart, bytes_part, name_part, text_part}
+use Rattle.dnw_write_script.specs.declared.wire_record.WireRecord.{WireRecord}
 use Rattle.dnw_write_script.specs.declared.script.Part.{Part}
 use Rattle.dnw_write_script.specs.declared.script.Part.TheVariants.{Name, U8, U16, I32, U32, Bytes, Text}
 use Rattle.dnw_write_script.specs.declared.script.Item.{Item}

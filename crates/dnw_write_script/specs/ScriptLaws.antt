@@ -9,9 +9,9 @@ use Rattle.dnw_write.specs.Encoder.{Encoder, mode_of_rdata}
 use Rattle.dnw_write.specs.EncoderLaws.{StaysBounded}
 use Rattle.dnw_write.specs.EmittedName.{in_mode}
 use Rattle.dnw_base.specs.Limits.{max_message}
-use Rattle.dnw_record.specs.declared.wire_record.WireRecord.{WireRecord}
-use Rattle.dnw_record.specs.declared.wire_record.WireData.{WireData}
-use Rattle.dnw_record.specs.declared.wire_record.WireData.TheVariants as rdata
+use Rattle.dnw_write_script.specs.declared.wire_record.WireRecord.{WireRecord}
+use Rattle.dnw_write_script.specs.declared.wire_record.WireData.{WireData}
+use Rattle.dnw_write_script.specs.declared.wire_record.WireData.TheVariants as rdata
 use Rattle.dnw_record.specs.Records.{HasDataName, RecordAt, RecordValue}
 use Rattle.dnw_write_script.specs.declared.script.Reply.{Reply}
 use Rattle.dnw_write_script.specs.declared.script.Reply.TheVariants.{Refused}

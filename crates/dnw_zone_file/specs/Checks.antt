@@ -10,6 +10,7 @@ use Rattle.dnw_base.specs.Decoder.{Decoder, HasLeft, advanced}
 use Rattle.dnw_base.specs.DnsClasses.{class_code}
 use Rattle.dnw_base.specs.Labels.{wildcard}
 use Rattle.dnw_base.specs.RecordTypes.{type_code}
+use Rattle.dnw_base.specs.TypeCodes.{a_code, aaaa_code, cname_code, dname_code, ds_code, key_code, mx_code, ns_code, nsec3_code, nsec_code, nxt_code, rrsig_code, sig_code, soa_code, srv_code}
 use Rattle.dnw_name_order.specs.Order.{labels_cmp}
 use Rattle.dnw_name_read.specs.Reading.{TakesName}
 use Rattle.dnw_record.specs.RecordFields.{record_fields}
@@ -46,12 +47,12 @@ is_in zone name = is_same (drop (length name - length zone) name) zone
 
 -- A and AAAA
 abbrev pub is_address : ℕ → Bool
-is_address code = code == 1 || code == 28
+is_address code = code == a_code || code == aaaa_code
 
 -- the types whose records a CNAME record may have beside it: other ones, and SIG, KEY and NXT (RFC 2535, section 2.3.5), RRSIG and
 -- NSEC (RFC 4034, sections 3 and 4)
 abbrev pub is_beside_alias : ℕ → Bool
-is_beside_alias code = code == 5 || code == 24 || code == 25 || code == 30 || code == 46 || code == 47
+is_beside_alias code = code == cname_code || code == sig_code || code == key_code || code == nxt_code || code == rrsig_code || code == nsec_code
 
 -- ---- looking for records
 
@@ -79,7 +80,7 @@ first_upward records (name ∷ names) is_sought = option_or (first_at records na
 
 -- A name of a delegation, or below it: it or a name above it, but not the apex, has NS records (RFC 1034, section 4.2.1).
 abbrev pub is_delegated : List (List ℕ) → List RecordValue → List (List ℕ) → Bool
-is_delegated zone records name = is_some (first_upward records (upward (length zone + 1) name) (has_type 2))
+is_delegated zone records name = is_some (first_upward records (upward (length zone + 1) name) (has_type ns_code))
 
 -- ---- a record, by its number, its type, its owner and the records of the zone
 
@@ -93,7 +94,7 @@ other_class records number r = if_so against.OtherClass number (not (has_class r
 
 -- SOA at a name that is not the apex
 abbrev pub soa_elsewhere : List (List ℕ) → ℕ → ℕ → List (List ℕ) → Option Finding
-soa_elsewhere zone number code owner = if_so against.SoaElsewhere number (code == 6 && not (is_same owner zone))
+soa_elsewhere zone number code owner = if_so against.SoaElsewhere number (code == soa_code && not (is_same owner zone))
 
 -- the first record of a set, which may be the record itself
 abbrev pub first_of_set : List RecordValue → RecordValue → Option ℕ
@@ -110,7 +111,7 @@ such_record records test (Some number) = if_such test (slice_get records number)
 
 -- SOA, CNAME and DNAME, of which a name has one record
 abbrev pub is_one_for_a_name : ℕ → Bool
-is_one_for_a_name code = code == 6 || code == 5 || code == 39
+is_one_for_a_name code = code == soa_code || code == cname_code || code == dname_code
 
 -- another of these, whose data have other octets; the first of the set is named
 abbrev pub two_of_one : List RecordValue → ℕ → ℕ → RecordValue → Option ℕ → Option Finding
@@ -120,31 +121,31 @@ two_of_one records number code r first =
 -- a time to live that is not that of the first record of the set, but of RRSIG
 abbrev pub other_ttl : List RecordValue → ℕ → ℕ → RecordValue → Option ℕ → Option Finding
 other_ttl records number code r first =
-    with_other against.OtherTtl number (such_record records (λ other. not (code == 46) && not (other.ttl == r.ttl)) first)
+    with_other against.OtherTtl number (such_record records (λ other. not (code == rrsig_code) && not (other.ttl == r.ttl)) first)
 
 -- CNAME at a name with a record of a type that is not allowed beside it, of which the first is named
 abbrev pub cname_and_other : List RecordValue → ℕ → ℕ → List (List ℕ) → Option Finding
 cname_and_other records number code owner =
-    if code == 5 then with_other against.CnameAndOther number (first_at records owner (λ other. not (is_beside_alias other))) else None
+    if code == cname_code then with_other against.CnameAndOther number (first_at records owner (λ other. not (is_beside_alias other))) else None
 
 -- DS at the apex, or at a name without NS records
 abbrev pub ds_elsewhere : List (List ℕ) → List RecordValue → ℕ → ℕ → List (List ℕ) → Option Finding
 ds_elsewhere zone records number code owner =
-    if code == 43 then if_so against.DsElsewhere number (not (not (is_same owner zone) && is_some (first_at records owner (has_type 2)))) else None
+    if code == ds_code then if_so against.DsElsewhere number (not (not (is_same owner zone) && is_some (first_at records owner (has_type ns_code)))) else None
 
 -- any record but RRSIG and NSEC3 below a name of the zone with a DNAME record, which is named
 abbrev pub below_dname : List (List ℕ) → List RecordValue → ℕ → ℕ → List (List ℕ) → Option Finding
 below_dname zone records number code owner =
-    if code == 46 || code == 50 then None else with_other against.BelowDname number (first_upward records (above (length zone) owner) (has_type 39))
+    if code == rrsig_code || code == nsec3_code then None else with_other against.BelowDname number (first_upward records (above (length zone) owner) (has_type dname_code))
 
 -- any record but an address below a name with NS records that is not the apex; the first of these is named
 abbrev pub below_delegation : List (List ℕ) → List RecordValue → ℕ → ℕ → List (List ℕ) → Option Finding
 below_delegation zone records number code owner =
-    if is_address code then None else with_other against.BelowDelegation number (first_upward records (above (length zone + 1) owner) (has_type 2))
+    if is_address code then None else with_other against.BelowDelegation number (first_upward records (above (length zone + 1) owner) (has_type ns_code))
 
 -- A, AAAA and MX, whose owners are names of hosts
 abbrev pub has_host_owner : ℕ → Bool
-has_host_owner code = is_address code || code == 15
+has_host_owner code = is_address code || code == mx_code
 
 abbrev pub no_host_name : ℕ → ℕ → List (List ℕ) → Option Finding
 no_host_name number code owner = if_so against.NoHostName number (has_host_owner code && not (is_host_name owner))
@@ -173,7 +174,7 @@ own_findings zone records number r =
 
 -- how many octets are before it in data of NS, MX (RFC 1035, sections 3.3.11 and 3.3.9) and SRV (RFC 2782)
 abbrev pub server_offset : ℕ → Option ℕ
-server_offset code = if code == 2 then Some 0 else if code == 15 then Some 2 else if code == 33 then Some 6 else None
+server_offset code = if code == ns_code then Some 0 else if code == mx_code then Some 2 else if code == srv_code then Some 6 else None
 
 -- A name is read after so many octets.
 abbrev pub IsNameAfter : Decoder → ℕ → List (List ℕ) → Type 0
@@ -195,13 +196,13 @@ has_address records name = is_some (first_at records name is_address) || has_wil
 abbrev pub in_zone_findings : List (List ℕ) → List RecordValue → ℕ → ℕ → List (List ℕ) → Option ℕ → Option Finding
 in_zone_findings zone records number code name (Some alias) = Some (finding against.ServerIsAlias number (Some alias))
 in_zone_findings zone records number code name None =
-    if_so against.NoAddress number (not (not (code == 2) && is_delegated zone records name) && not (has_address records name))
+    if_so against.NoAddress number (not (not (code == ns_code) && is_delegated zone records name) && not (has_address records name))
 
 -- Of names that are not in the zone nothing is known, and the root stands for no server (RFC 7505; RFC 2782).
 abbrev pub server_findings : List (List ℕ) → List RecordValue → ℕ → ℕ → List (List ℕ) → List Finding
 server_findings zone records number code [] = []
 server_findings zone records number code name =
-    if is_in zone name then listed (in_zone_findings zone records number code name (first_at records name (has_type 5))) else []
+    if is_in zone name then listed (in_zone_findings zone records number code name (first_at records name (has_type cname_code))) else []
 
 -- These are the findings of the name of a server; if the data have none, there are none.
 abbrev pub AreOfServer : List (List ℕ) → List RecordValue → ℕ → RecordValue → List Finding → Type 0
@@ -227,7 +228,7 @@ AreFindingsFrom zone records number (r ∷ left) found =
 -- what the apex lacks
 abbrev pub apex_findings : List (List ℕ) → List RecordValue → List Finding
 apex_findings zone records =
-    listed (apex_lack against.NoSoa (first_at records zone (has_type 6))) ++ listed (apex_lack against.NoNs (first_at records zone (has_type 2)))
+    listed (apex_lack against.NoSoa (first_at records zone (has_type soa_code))) ++ listed (apex_lack against.NoNs (first_at records zone (has_type ns_code)))
 
 -- These are the findings of a zone.
 abbrev pub AreFindings : List (List ℕ) → List RecordValue → List Finding → Type 0

@@ -5,9 +5,10 @@ ghost use Rattle.dnw_zone_file.specs.declared.finding.Finding.{Finding};
 
 use crate::finding::{Check, Finding, add, apex_lack, if_so};
 use crate::lookup::{Sought, first_at, is_in, out_of_order};
-use crate::own_checks::{NS, SOA, check_owner};
+use crate::own_checks::check_owner;
 use crate::servers::check_server;
 use dnw_base::limits::MAX_NAME;
+use dnw_base::type_codes::{NS, SOA};
 use dnw_name::name::Name;
 use dnw_record::record_ref::RecordRef;
 use std::alloc::{AllocError, Global};

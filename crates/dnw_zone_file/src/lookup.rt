@@ -9,6 +9,7 @@ ghost use Rattle.dnw_zone_file.specs.Checks.{OwnersAreInOrder, IsOutOfOrder, fir
 ghost use Rattle.dnw_zone_file.specs.Inside.Seeking.{is_sought};
 
 use dnw_base::limits::MAX_NAME;
+use dnw_base::type_codes::{A, AAAA, CNAME, KEY, NSEC, NXT, RRSIG, SIG};
 use dnw_name::name::Name;
 use dnw_name_form::wire_labels::{WireLabels, last_labels};
 use dnw_name_order::order::cmp_labels;
@@ -94,14 +95,14 @@ fn is_sought(sought: Sought, record: &RecordRef<'_>) -> bool
 pub(crate) fn is_address(code: u16) -> bool
     ensures { result ≡ is_address code }
 {
-    code == 1 || code == 28
+    code == A || code == AAAA
 }
 
 /// Returns `true` for the types that may be beside a CNAME record.
 fn is_beside_alias(code: u16) -> bool
     ensures { result ≡ is_beside_alias code }
 {
-    matches!(code, 5 | 24 | 25 | 30 | 46 | 47)
+    matches!(code, CNAME | SIG | KEY | NXT | RRSIG | NSEC)
 }
 
 /// Returns the number of the first record whose owner is before that of the record before it.

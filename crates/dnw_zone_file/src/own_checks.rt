@@ -8,29 +8,11 @@ ghost use Rattle.dnw_zone_file.specs.Checks.{OwnersAreInOrder, above, first_upwa
 use crate::finding::{Check, Finding, add, if_so, with_other};
 use crate::host::is_host_name;
 use crate::lookup::{Sought, first_at, first_upward, is_address, is_apex, label_count};
+use dnw_base::type_codes::{CNAME, DNAME, DS, MX, NS, NSEC3, RRSIG, SOA};
 use dnw_name::name::Name;
 use dnw_name_form::wire_labels::WireLabels;
 use dnw_record::record_ref::RecordRef;
 use std::alloc::AllocError;
-
-/// The types that checks are about.
-pub(crate) const NS: u16 = 2;
-
-pub(crate) const CNAME: u16 = 5;
-
-pub(crate) const SOA: u16 = 6;
-
-pub(crate) const MX: u16 = 15;
-
-pub(crate) const SRV: u16 = 33;
-
-const DNAME: u16 = 39;
-
-const DS: u16 = 43;
-
-const RRSIG: u16 = 46;
-
-const NSEC3: u16 = 50;
 
 /// Adds what is found of a record with this owner, but for the name of a server in its data.
 #[tactic(auto, using(crate::proofs::Adding::three))]

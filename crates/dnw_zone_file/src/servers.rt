@@ -6,10 +6,10 @@ ghost use Rattle.dnw_zone_file.specs.declared.finding.Finding.{Finding};
 
 use crate::finding::{Check, Finding, add, if_so, with_other};
 use crate::lookup::{Sought, first_at, first_upward, is_in, label_count};
-use crate::own_checks::{CNAME, MX, NS, SRV};
 use dnw_base::decoder::BinDecoder;
 use dnw_base::error::DecodeError;
 use dnw_base::limits::MAX_NAME;
+use dnw_base::type_codes::{CNAME, MX, NS, SRV};
 use dnw_name::name::Name;
 use dnw_name::name_ref::NameRef;
 use dnw_name_form::form::WireForm;

@@ -13,7 +13,7 @@ use dns_names_wire::error::DecodeError;
 use dns_names_wire::fields::Field;
 use dns_names_wire::name::Name;
 use dns_names_wire::rdata::{RData, Record};
-use dns_names_wire::record::RecordRef;
+use dns_names_wire::record::{RecordRef, WireRecord};
 use dns_names_wire::record_type::RecordType;
 use dns_names_wire::zone::check_zone;
 use std::alloc::Global;
@@ -139,10 +139,10 @@ fn records_may_have_data_of_any_size(rt: HostRuntime) -> Result<(), Fail> {
         };
         assert_eq!(rt; own.data.octets().len(), len);
         assert!(rt; matches!(record_key(alloc, &item), Ok(key) if len <= key.len()));
-        let Some(wire) = own.to_wire_record(alloc)? else {
+        let Some(wire) = WireRecord::from_record(alloc, &own)? else {
             return Err(Fail::from("a wire record"));
         };
-        let Ok(back) = Record::from_wire_record(alloc, &wire) else {
+        let Ok(back) = wire.to_record(alloc) else {
             return Err(Fail::from("a record of a wire record"));
         };
         assert_eq!(rt; back.data.octets().len(), len);

@@ -10,8 +10,8 @@ use dns_names_wire::field_text::{
     parse_string, parse_tag, parse_text,
 };
 use dns_names_wire::name::Name;
-use dns_names_wire::rdata::{CheckedRecord, RData, Record};
-use dns_names_wire::record::RecordRef;
+use dns_names_wire::rdata::{RData, Record};
+use dns_names_wire::record::{RecordRef, WireRecord};
 use dns_names_wire::record_data::RecordDataDecodable;
 use dns_names_wire::record_type_set::RecordTypeSet;
 use dns_names_wire::restrict::Restrict;
@@ -137,20 +137,12 @@ fn records_of_any_size_are_owned_and_written(rt: HostRuntime) -> Result<(), Fail
         let own = octets(alloc, len)?;
         let bytes = record_octets(alloc, 10, own.as_slice())?;
         let record = RecordRef::from_bytes(alloc, bytes.as_slice())?;
-        assert_eq!(rt;
-            RData::from_ref(alloc, &record)?.to_bytes(alloc)?.as_slice(),
-            own.as_slice()
-        );
-        assert_eq!(rt;
-            Record::from_ref(alloc, &record)?
-                .to_bytes(alloc)?
-                .as_slice(),
-            bytes.as_slice()
-        );
-        let Ok(checked) = CheckedRecord::new(record) else {
-            return Err(Fail::from("a record"));
+        assert_eq!(rt; RData::from_ref(alloc, &record)?.octets(), own.as_slice());
+        let owned = Record::from_ref(alloc, &record)?;
+        let Some(wire) = WireRecord::from_record(alloc, &owned)? else {
+            return Err(Fail::from("a record of bytes"));
         };
-        assert_eq!(rt; checked.to_bytes(alloc)?.as_slice(), bytes.as_slice());
+        assert_eq!(rt; wire.to_bytes(alloc)?.as_slice(), bytes.as_slice());
     }
     Ok(())
 }

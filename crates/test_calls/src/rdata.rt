@@ -1,81 +1,14 @@
-//! Data of any type, as they are read from messages and written into them.
+//! Data of any type, as they are read from messages.
 
-use dns_names_wire::binary::BinEncodable;
 use dns_names_wire::data_text::{parse_record, record_text};
 use dns_names_wire::decoder::BinDecoder;
 use dns_names_wire::dns_class::DNSClass;
-use dns_names_wire::encoder::BinEncoder;
-use dns_names_wire::error::ProtoError;
 use dns_names_wire::fields::Field;
 use dns_names_wire::name::Name;
-use dns_names_wire::rdata::{CheckedRecord, RData, RDataError, Record};
+use dns_names_wire::rdata::{RData, RDataError, Record};
 use dns_names_wire::record::RecordRef;
 use dns_names_wire::record_type::RecordType;
-use std::alloc::Global;
 use std::test::Fail;
-
-/// A record of the owner `a.` with data of a type.
-fn record_of(
-    alloc: Global,
-    record_type: RecordType,
-    octets: &[u8],
-) -> Result<Record, &'static str> {
-    let Ok(data) = RData::new(alloc, DNSClass::IN, record_type, octets) else {
-        return Err("data of the type");
-    };
-    let Ok(name) = Name::from_ascii(alloc, "a.") else {
-        return Err("a name");
-    };
-    Ok(Record {
-        name,
-        ttl: 300,
-        data,
-    })
-}
-
-#[test]
-fn names_are_compressed_in_types_of_rfc_1035_alone(rt: HostRuntime) -> Result<(), Fail> {
-    let alloc = rt.alloc();
-    let mail = record_of(alloc, RecordType::MX, b"\x00\x0a\x01b\x01a\x00")?;
-    let server = record_of(
-        alloc,
-        RecordType::SRV,
-        b"\x00\x01\x00\x02\x00\x03\x01b\x01a\x00",
-    )?;
-    let mut bytes = Vec::new(alloc);
-    let mut encoder = BinEncoder::new(&mut bytes);
-    mail.emit(&mut encoder)?;
-    server.emit(&mut encoder)?;
-    drop(encoder);
-    let first = b"\x01a\x00\x00\x0f\x00\x01\x00\x00\x01\x2c\x00\x06\x00\x0a\x01b\xc0\x00";
-    let second =
-        b"\xc0\x00\x00\x21\x00\x01\x00\x00\x01\x2c\x00\x0b\x00\x01\x00\x02\x00\x03\x01b\x01a\x00";
-    assert!(rt; bytes.as_slice().starts_with(first));
-    assert!(rt; bytes.as_slice().ends_with(second));
-    assert_eq!(rt; bytes.len(), first.len() + second.len());
-    Ok(())
-}
-
-#[test]
-fn a_record_that_does_not_fit_is_undone(rt: HostRuntime) -> Result<(), Fail> {
-    let alloc = rt.alloc();
-    let mail = record_of(alloc, RecordType::MX, b"\x00\x0a\x01b\x01a\x00")?;
-    let mut bytes = Vec::new(alloc);
-    let mut encoder = BinEncoder::new(&mut bytes);
-    Name::from_ascii(alloc, "a.")?.emit(&mut encoder)?;
-    encoder.set_max_size(20);
-    assert!(rt;
-        matches!(
-            mail.emit(&mut encoder),
-            Err(ProtoError::MaxBufferSizeExceeded(20))
-        )
-    );
-    assert_eq!(rt; encoder.len(), 3);
-    encoder.set_max_size(21);
-    mail.emit(&mut encoder)?;
-    assert_eq!(rt; encoder.len(), 21);
-    Ok(())
-}
 
 #[test]
 fn data_of_a_message_are_copied_whole(rt: HostRuntime) -> Result<(), Fail> {
@@ -128,60 +61,13 @@ fn octets_that_are_no_data_are_refused(rt: HostRuntime) -> Result<(), Fail> {
     Ok(())
 }
 
-/// An MX record of a message, whose names have pointers, after a name of 3 octets: `a. 300 IN MX 10 B.a.`
-const MAIL: &[u8] =
-    b"\x01a\x00\xc0\x00\x00\x0f\x00\x01\x00\x00\x01\x2c\x00\x06\x00\x0a\x01B\xc0\x00";
-
-/// The record after the first 3 octets of a message, checked.
-fn checked(message: &[u8]) -> Result<CheckedRecord<'_>, Fail> {
-    let mut decoder = BinDecoder::new(message);
-    decoder.skip(3)?;
-    let item = RecordRef::read_next(&mut decoder)?;
-    CheckedRecord::new(item).map_err(|_| Fail::from("data of the type"))
-}
-
 #[test]
-fn a_record_of_a_message_is_written_with_its_names_anew(rt: HostRuntime) -> Result<(), Fail> {
-    let mail = checked(MAIL)?;
-    let mut bytes = Vec::new(rt.alloc());
-    let mut encoder = BinEncoder::new(&mut bytes);
-    encoder.emit_u16(7)?;
-    mail.emit(&mut encoder)?;
-    mail.emit(&mut encoder)?;
-    drop(encoder);
-    let first = b"\x00\x07\x01a\x00\x00\x0f\x00\x01\x00\x00\x01\x2c\x00\x06\x00\x0a\x01B\xc0\x02";
-    let second = b"\xc0\x02\x00\x0f\x00\x01\x00\x00\x01\x2c\x00\x04\x00\x0a\xc0\x11";
-    assert!(rt; bytes.as_slice().starts_with(first));
-    assert!(rt; bytes.as_slice().ends_with(second));
-    assert_eq!(rt; bytes.len(), first.len() + second.len());
-    Ok(())
-}
-
-#[test]
-fn a_record_of_a_message_that_does_not_fit_is_undone(rt: HostRuntime) -> Result<(), Fail> {
-    let mail = checked(MAIL)?;
-    let mut bytes = Vec::new(rt.alloc());
-    let mut encoder = BinEncoder::new(&mut bytes);
-    encoder.set_max_size(18);
-    assert!(rt;
-        matches!(
-            mail.emit(&mut encoder),
-            Err(ProtoError::MaxBufferSizeExceeded(18))
-        )
-    );
-    assert_eq!(rt; encoder.len(), 0);
-    encoder.set_max_size(19);
-    mail.emit(&mut encoder)?;
-    assert_eq!(rt; encoder.len(), 19);
-    Ok(())
-}
-
-#[test]
-fn a_record_with_an_octet_too_many_is_not_checked(rt: HostRuntime) -> Result<(), Fail> {
+fn a_record_with_an_octet_too_many_is_not_copied(rt: HostRuntime) -> Result<(), Fail> {
     let message = b"\x01a\x00\xc0\x00\x00\x01\x00\x01\x00\x00\x01\x2c\x00\x05\x7f\x00\x00\x01\x00";
     let mut decoder = BinDecoder::new(message.as_slice());
     decoder.skip(3)?;
-    let Err(error) = CheckedRecord::new(RecordRef::read_next(&mut decoder)?) else {
+    let item = RecordRef::read_next(&mut decoder)?;
+    let Err(RDataError::Field(error)) = Record::from_ref(rt.alloc(), &item) else {
         return Err(Fail::from("an octet too many"));
     };
     assert_eq!(rt; error.field, 1);
@@ -232,7 +118,7 @@ fn data_are_left_out_in_updates(rt: HostRuntime) -> Result<(), Fail> {
 const NO_DATA: &[u8] = b"\x01x\x01b\x00\x00\x01\x00\xff\x00\x00\x00\x00\x00\x00";
 
 #[test]
-fn a_record_without_data_is_written_and_printed(rt: HostRuntime) -> Result<(), Fail> {
+fn a_record_without_data_is_copied_and_printed(rt: HostRuntime) -> Result<(), Fail> {
     let alloc = rt.alloc();
     let found = RecordRef::read_next(&mut BinDecoder::new(NO_DATA))?;
     assert_eq!(rt; record_text(alloc, &found)?.as_str(), "x.b. 0 ANY A");
@@ -242,14 +128,6 @@ fn a_record_without_data_is_written_and_printed(rt: HostRuntime) -> Result<(), F
     let Ok(record) = Record::from_ref(alloc, &found) else {
         return Err(Fail::from("a record"));
     };
-    let mut bytes = Vec::new(alloc);
-    record.emit(&mut BinEncoder::new(&mut bytes))?;
-    assert!(rt; bytes.as_slice() == NO_DATA);
-    let Ok(checked) = CheckedRecord::new(found) else {
-        return Err(Fail::from("no fields"));
-    };
-    let mut copied = Vec::new(alloc);
-    checked.emit(&mut BinEncoder::new(&mut copied))?;
-    assert!(rt; copied.as_slice() == NO_DATA);
+    assert!(rt; record.data.octets().is_empty());
     Ok(())
 }

@@ -6,8 +6,8 @@ use dns_names_wire::decoder::BinDecoder;
 use dns_names_wire::encoder::{BinEncoder, RDataEncoding};
 use dns_names_wire::error::{DecodeError, ProtoError};
 use dns_names_wire::name::Name;
-use dns_names_wire::rdata::CheckedRecord;
-use dns_names_wire::record::RecordRef;
+use dns_names_wire::rdata::Record;
+use dns_names_wire::record::{RecordRef, WireRecord};
 use dns_names_wire::record_type::RecordType;
 use std::test::Fail;
 
@@ -58,7 +58,8 @@ fn a_record_of_a_message_is_written_again(rt: HostRuntime) -> Result<(), Fail> {
     message.extend_from_slice(tail)?;
     let mut decoder = BinDecoder::new(message.as_slice());
     decoder.skip(3)?;
-    let record = CheckedRecord::new(RecordRef::read(alloc, &mut decoder)?)?;
+    let owned = Record::from_ref(alloc, &RecordRef::read(alloc, &mut decoder)?)?;
+    let record = WireRecord::from_record(alloc, &owned)?.ok_or("a record of bytes")?;
     let mut bytes = Vec::new(alloc);
     let mut encoder = BinEncoder::new(&mut bytes);
     Name::from_ascii(alloc, "x.b.a.")?.emit(&mut encoder)?;

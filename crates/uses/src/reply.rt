@@ -100,7 +100,7 @@ fn try_answer(
     ensures header { OnOk result (HasHeader (value encoder.new)) }
     ensures lender { lender encoder.new ≡ lender encoder.old }
 {
-    let start = encoder.checkpoint();
+    let start = encoder.mark();
     match write_answer(encoder, name, ttl, address) {
         Ok(()) => Ok(true),
         Err(ProtoError::MaxBufferSizeExceeded(_)) => {

@@ -4,7 +4,7 @@
 ghost use Rattle.dnw_write.specs.CandidateLaws.{NewPrecede, WritesPrecede, TextsPrecede, PlacesPrecede, FillsPrecede, NamesPrecede, StoresPrecede, TrimsPrecede, RewindsPrecede, ItemsPrecede, ItemPrecedes};
 ghost use Rattle.dnw_write.specs.EncoderLaws.{WritesStayBounded, PlacesStayBounded, FillsStayBounded, FillsTakeNoMemory, ItemsStayBounded, ItemsKeepFrame, FramesFollow, NameIsRead, NameComesBack, NamesStayBounded, NamesTakeNoMore, PointersSave};
 
-pub use super::checkpoint::rewinding_undoes;
+pub use super::marks::rewinding_undoes;
 use crate::binary::BinEncodable;
 
 /// A write, a placeholder and its filling leave the buffer no longer than it was, or than the maximum.

@@ -6,7 +6,7 @@ ghost use Rattle.dnw_base.specs.declared.error.ProtoError.{ProtoError};
 ghost use Rattle.dnw_base.specs.Limits.{max_message};
 ghost use Rattle.dnw_write.specs.Encoder.{TakesRoom, Writes, WritesText, reserved, usual_candidates, usual_names};
 ghost use Rattle.dnw_write.specs.EncoderValue.{value, lender};
-ghost use Rattle.dnw_record.specs.WrittenRecords.{EmitsRecord};
+ghost use Rattle.dnw_write_script.specs.WrittenRecords.{EmitsRecord};
 ghost use Rattle.dnw_write_script.specs.Script.{action};
 ghost use Rattle.dnw_write_script.specs.Pieces.{Account, after_action, opening};
 ghost use Rattle.dnw_write_script.specs.Ran.{Ran};
@@ -15,7 +15,7 @@ ghost use Rattle.dnw_write_script.specs.Inside.Running.{FillsKept, HoldsPlace, K
 
 use super::{Item, Reply, Step};
 use dnw_base::error::ProtoResult;
-use dnw_record::wire_record::WireRecord;
+use crate::wire_record::WireRecord;
 use dnw_write::binary::BinEncodable;
 use dnw_write::encoder::{BinEncoder, CANDIDATE_LIMIT, NAME_LIMIT, NameEncoding, Place};
 use std::alloc::Global;

@@ -1,4 +1,4 @@
-use Rattle.dnw_record.proofs.AnyRecords.{data_have_fields}
+use Rattle.dnw_record.proofs.Pieces.{data_have_fields}
 use Rattle.dnw_record.proofs.laws.data_have_fields.Goals as goal
 
 pub returns : goal.returns

@@ -1,7 +1,7 @@
 -- The data of an RRSIG begin with 18 octets, the signer's name follows, and what is after it is cut off.
 use Rattle.std.proofs.Common.{List, ℕ, ap, ◌∙◌, take}
 use Rattle.dnw_base.specs.Decoder.{Decoder, advanced}
-use Rattle.dnw_signed.specs.SignedFields.{before_signer}
+use Rattle.dnw_data.specs.Signature.{before_signer}
 use Rattle.dnw_signed.proofs.Rrsigs.{front_part, is_ok, long_enough, rrsig_parts, signed_made, signer_there, skipped}
 use Rattle.dnw_signed.proofs.canonical.cut_signature.Goals as goal
 

@@ -1,7 +1,7 @@
 use Rattle.std.proofs.Common.{◌≡◌, ◌≤◌, length, ap, arith, rules}
 use Rattle.dnw_base.specs.RecordTypes.{type_code}
 use Rattle.dnw_base.specs.declared.record_type.RecordType.TheVariants.{RRSIG}
-use Rattle.dnw_signed.specs.SignedFields.{before_signer}
+use Rattle.dnw_data.specs.Signature.{before_signer}
 use Rattle.dnw_signed.proofs.canonical.signed_fields.Goals as goal
 
 pub cut_signature-requires : goal.cut_signature-requires

@@ -2,7 +2,7 @@ use Rattle.std.proofs.Common.{◌≡◌, List, ℕ, ◌++◌, refl, ap, ◌∙�
 use Rattle.dnw_base.specs.Decoder.{next_bytes}
 use Rattle.dnw_base.specs.Names.{lower, wire}
 use Rattle.dnw_record.specs.DataCopies.{data_start}
-use Rattle.dnw_signed.specs.SignedFields.{before_signer}
+use Rattle.dnw_data.specs.Signature.{before_signer}
 use Rattle.dnw_signed.proofs.KnownRrsig.{known_rrsig, known_zone}
 use Rattle.dnw_signed.proofs.covering.append_known.Goals as goal
 

@@ -1,6 +1,6 @@
 use Rattle.std.proofs.Common.{◌≤◌, ℕ, List, ◌++◌, length, inr, sym, ap, ◌∙◌, subst, arith}
 use Rattle.dnw_signed.specs.CanonicalData.{IsCanonical}
-use Rattle.dnw_signed.specs.SignedFields.{before_signer}
+use Rattle.dnw_data.specs.Signature.{before_signer}
 use Rattle.dnw_signed.proofs.Putting.{canonical_copy, copy_of}
 use Rattle.dnw_signed.proofs.covering.fields_of.Goals as goal
 

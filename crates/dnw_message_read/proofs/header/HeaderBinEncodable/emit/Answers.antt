@@ -1,4 +1,0 @@
-use Rattle.dnw_message_read.proofs.header.HeaderBinEncodable.emit.Goals as goal
-
-pub returns-clause-emits : goal.returns-clause-emits
-returns-clause-emits c = rw c.to_octets.ensures.octets at c.emit_vec.ensures.writes

@@ -1,5 +1,0 @@
-use Rattle.dnw_record.proofs.AnyRecords.{any_records_precede}
-use Rattle.dnw_record.proofs.laws.any_records_precede.Goals as goal
-
-pub returns : goal.returns
-returns c = any_records_precede

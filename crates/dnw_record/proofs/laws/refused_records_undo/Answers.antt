@@ -1,5 +1,0 @@
-use Rattle.dnw_record.proofs.Preceding.{refused_records_undo}
-use Rattle.dnw_record.proofs.laws.refused_records_undo.Goals as goal
-
-pub returns-clause-record : goal.returns-clause-record
-returns-clause-record c = refused_records_undo
