@@ -1,18 +1,21 @@
-"""Entries of the list of record types, tried in a copy of what tools/types reads and writes."""
+"""Entries of the lists of record types and of codes, tried in a copy of what tools/types reads and writes."""
 
 import pathlib
 import shutil
 import subprocess
 
 ROOT = pathlib.Path(__file__).resolve().parent.parent
-LIST, EXAMPLES, TEXTS = "crates/dnw_data/specs/Table.antt", "diff/rows/fields.txt", "diff/rows/data_texts.txt"
+LIST, CODES = "crates/dnw_data/specs/Table.antt", "tools/codes.txt"
+EXAMPLES, TEXTS = "diff/rows/fields.txt", "diff/rows/data_texts.txt"
 # What tools/types reads and writes, and the script itself.
 PATHS = [
     "tools/types",
     "tools/type_tables",
+    CODES,
     "crates/dnw_base/specs",
     "crates/dnw_data/specs",
     "crates/dnw_data/src",
+    "crates/dnw_message_read/specs",
     "crates/dnw_zone_data/specs",
     "include",
     "c/test.c",

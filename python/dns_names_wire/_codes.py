@@ -251,29 +251,37 @@ def _numbered(names: Dict[int, str], most: int) -> Callable[[str], int]:
     return code_of
 
 
-_OP_CODES = {0: "QUERY", 1: "IQUERY", 2: "STATUS", 4: "NOTIFY", 5: "UPDATE"}
-_RESPONSE_CODES = {
-    0: "NOERROR",
-    1: "FORMERR",
-    2: "SERVFAIL",
-    3: "NXDOMAIN",
-    4: "NOTIMP",
-    5: "REFUSED",
-    6: "YXDOMAIN",
-    7: "YXRRSET",
-    8: "NXRRSET",
-    9: "NOTAUTH",
-    10: "NOTZONE",
-    11: "DSOTYPENI",
-    16: "BADVERS",
-    17: "BADKEY",
-    18: "BADTIME",
-    19: "BADMODE",
-    20: "BADNAME",
-    21: "BADALG",
-    22: "BADTRUNC",
-    23: "BADCOOKIE",
+# made by tools/types from tools/codes.txt
+_OP_CODES = {
+    0: "QUERY",  # A standard query (RFC 1035, section 4.1.1)
+    1: "IQUERY",  # An inverse query, which is obsolete (RFC 3425)
+    2: "STATUS",  # A request for the status of a server (RFC 1035, section 4.1.1)
+    4: "NOTIFY",  # A zone has changed (RFC 1996)
+    5: "UPDATE",  # A request to change a zone (RFC 2136)
 }
+_RESPONSE_CODES = {
+    0: "NOERROR",  # No error (RFC 1035, section 4.1.1)
+    1: "FORMERR",  # The server could not interpret the request (RFC 1035, section 4.1.1)
+    2: "SERVFAIL",  # The server failed (RFC 1035, section 4.1.1)
+    3: "NXDOMAIN",  # The name does not exist (RFC 1035, section 4.1.1)
+    4: "NOTIMP",  # The server does not support this kind of request (RFC 1035, section 4.1.1)
+    5: "REFUSED",  # The server refuses the request (RFC 1035, section 4.1.1)
+    6: "YXDOMAIN",  # A name exists that should not (RFC 2136, section 2.2)
+    7: "YXRRSET",  # Records exist that should not (RFC 2136, section 2.2)
+    8: "NXRRSET",  # Records do not exist that should (RFC 2136, section 2.2)
+    9: "NOTAUTH",  # The server is not authoritative, or the request is not authorized (RFC 2136, section 2.2; RFC 8945, section 5.2)
+    10: "NOTZONE",  # A name is not in the zone (RFC 2136, section 2.2)
+    11: "DSOTYPENI",  # The server does not support the DSO type (RFC 8490, section 10.2)
+    16: "BADVERS",  # The server does not support the EDNS version (RFC 6891, section 9)
+    17: "BADKEY",  # The key is not known (RFC 8945, section 3)
+    18: "BADTIME",  # The time of the signature is out of range (RFC 8945, section 3)
+    19: "BADMODE",  # The mode of TKEY is not known (RFC 2930, section 2.6)
+    20: "BADNAME",  # The name of the key is taken (RFC 2930, section 2.6)
+    21: "BADALG",  # The algorithm is not known (RFC 2930, section 2.6)
+    22: "BADTRUNC",  # The signature was truncated too much (RFC 8945, section 3)
+    23: "BADCOOKIE",  # The server cookie is bad or missing (RFC 7873, section 8)
+}
+# made until here
 
 
 class OpCode(_Code):
@@ -288,11 +296,13 @@ class OpCode(_Code):
     _code_of = staticmethod(_numbered(_OP_CODES, 15))
     _most = 15
 
+    # made by tools/types from tools/codes.txt
     QUERY: ClassVar["OpCode"]
     IQUERY: ClassVar["OpCode"]
     STATUS: ClassVar["OpCode"]
     NOTIFY: ClassVar["OpCode"]
     UPDATE: ClassVar["OpCode"]
+    # made until here
 
 
 class ResponseCode(_Code):
@@ -308,6 +318,7 @@ class ResponseCode(_Code):
     _code_of = staticmethod(_numbered(_RESPONSE_CODES, 4095))
     _most = 4095
 
+    # made by tools/types from tools/codes.txt
     NOERROR: ClassVar["ResponseCode"]
     FORMERR: ClassVar["ResponseCode"]
     SERVFAIL: ClassVar["ResponseCode"]
@@ -328,6 +339,7 @@ class ResponseCode(_Code):
     BADALG: ClassVar["ResponseCode"]
     BADTRUNC: ClassVar["ResponseCode"]
     BADCOOKIE: ClassVar["ResponseCode"]
+    # made until here
 
 
 def _set_constants(kind: Type[_Code]) -> None:

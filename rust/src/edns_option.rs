@@ -178,26 +178,28 @@ pub struct ZoneVersion<'a> {
 
 /// The codes of options, by IANA's registry "DNS EDNS0 Option Codes (OPT)".
 impl EdnsOptionData<'_> {
-    /// The code of an identifier of a server.
+    // made by tools/types from tools/codes.txt
+    /// The code of the identifier of a server (RFC 5001, section 2.3).
     pub const NSID: u16 = 3;
-    /// The code of a network of a client.
+    /// The code of the network of a client (RFC 7871, section 6).
     pub const CLIENT_SUBNET: u16 = 8;
-    /// The code of the time after which a zone expires.
+    /// The code of the time after which a zone expires (RFC 7314, section 2).
     pub const EXPIRE: u16 = 9;
-    /// The code of cookies.
+    /// The code of cookies of a client and a server (RFC 7873, section 4).
     pub const COOKIE: u16 = 10;
-    /// The code of how long a connection is kept.
+    /// The code of how long a connection is kept (RFC 7828, section 3.1).
     pub const TCP_KEEPALIVE: u16 = 11;
-    /// The code of padding.
+    /// The code of octets that say nothing (RFC 7830, section 3).
     pub const PADDING: u16 = 12;
-    /// The code of the closest trust point.
+    /// The code of the closest trust point (RFC 7901, section 4).
     pub const CHAIN: u16 = 13;
-    /// The code of an extended DNS error.
+    /// The code of an extended DNS error (RFC 8914, section 2).
     pub const EXTENDED_ERROR: u16 = 15;
-    /// The code of the domain of an agent that errors are reported to.
+    /// The code of the domain of an agent that errors are reported to (RFC 9567, section 5).
     pub const REPORT_CHANNEL: u16 = 18;
-    /// The code of the version of a zone.
+    /// The code of the version of a zone (RFC 9660, section 2).
     pub const ZONE_VERSION: u16 = 19;
+    // made until here
 
     /// Returns the code of the option that says it.
     pub fn code(&self) -> u16 {

@@ -53,6 +53,7 @@ codes! {
     /// assert_eq!((OpCode::Query.to_string(), OpCode::from(7).to_string()), ("QUERY".into(), "RESERVED7".into()));
     /// ```
     OpCode(u8) {
+        // made by tools/types from tools/codes.txt
         /// A standard query (RFC 1035, section 4.1.1).
         Query = 0 "QUERY",
         /// An inverse query, which is obsolete (RFC 3425).
@@ -63,6 +64,7 @@ codes! {
         Notify = 4 "NOTIFY",
         /// A request to change a zone (RFC 2136).
         Update = 5 "UPDATE",
+        // made until here
     }
 }
 
@@ -77,6 +79,7 @@ codes! {
     /// assert_eq!(ResponseCode::NXDomain.to_string(), "NXDOMAIN");
     /// ```
     ResponseCode(u16) {
+        // made by tools/types from tools/codes.txt
         /// No error (RFC 1035, section 4.1.1).
         NoError = 0 "NOERROR",
         /// The server could not interpret the request (RFC 1035, section 4.1.1).
@@ -118,6 +121,7 @@ codes! {
         BADTRUNC = 22 "BADTRUNC",
         /// The server cookie is bad or missing (RFC 7873, section 8).
         BADCOOKIE = 23 "BADCOOKIE",
+        // made until here
     }
 }
 

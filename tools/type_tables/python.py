@@ -3,10 +3,11 @@
 from __future__ import annotations
 
 import textwrap
-from typing import Dict, Iterator, List, Union
+from typing import Dict, Iterable, Iterator, List, Union
 
 from .bound import bound, check_shared
 from .listed import Type, TypeList
+from .message_codes import Code
 from .outputs import Parts, Whole, filled, lines
 
 CODES, SHOWN, DATA = (f"python/dns_names_wire/{it}.py" for it in ("_codes", "__init__", "_rdata"))
@@ -111,13 +112,37 @@ def in_order(its: TypeList) -> List[Type]:
     return [it for own in firsts for it in [own, *(other for other in sharing[own.name] if other is not own)]]
 
 
-def outputs(its: TypeList) -> List[Union[Parts, Whole]]:
-    constants = [f'    {it.identifier}: ClassVar["RecordType"]' for it in its.types]
-    unnamed = [f"RecordType.{it.identifier} = RecordType({it.code})" for it in its.types if not it.is_named]
+def names_of(name: str, codes: List[Code]) -> Iterator[str]:
+    """The lines of the names of codes, by their numbers."""
+    yield f"{name} = {{"
+    yield from (f'    {it.number}: "{it.name.upper()}",  # {it.about}' for it in codes)
+    yield "}"
+
+
+def declared(names: Iterable[str], kind: str) -> str:
+    """The constants of a class, which it gets below."""
+    return lines([f'    {name}: ClassVar["{kind}"]' for name in names])
+
+
+def constants(its: TypeList, codes: Dict[str, List[Code]]) -> Parts:
+    operations, responses = codes["operation"], codes["response"]
+    return Parts(
+        CODES,
+        [
+            declared((it.identifier for it in its.types), "RecordType"),
+            lines([*names_of("_OP_CODES", operations), *names_of("_RESPONSE_CODES", responses)]),
+            declared((it.name.upper() for it in operations), "OpCode"),
+            declared((it.name.upper() for it in responses), "ResponseCode"),
+            lines([f"RecordType.{it.identifier} = RecordType({it.code})" for it in its.types if not it.is_named]),
+        ],
+    )
+
+
+def outputs(its: TypeList, codes: Dict[str, List[Code]]) -> List[Union[Parts, Whole]]:
     shown = filled(sorted(f"{it.identifier} as {it.identifier}" for it in its.with_class), 4, WIDTH - 4)
     classes = [line for it in in_order(its) for line in class_lines(it)]
     return [
-        Parts(CODES, [lines(constants), lines(unnamed)]),
+        constants(its, codes),
         Parts(SHOWN, [f"from ._rdata import (\n{shown})  # fmt: skip\n"]),
         Whole(DATA, HEAD + lines(classes)),
     ]
