@@ -5,7 +5,7 @@ from __future__ import annotations
 from dataclasses import dataclass
 from typing import Dict
 
-from .listed import TABLE, Type, TypeList, fail
+from .listed import TABLE, Type, fail
 
 
 @dataclass(frozen=True)
@@ -54,7 +54,7 @@ def bound(kind: str) -> Bound:
     return found or fail(TABLE, f"{kind} is a kind of field that the bindings do not know: KINDS of tools/type_tables/bound.py")
 
 
-def check_shared(its: TypeList, it: Type, other: Type) -> None:
+def check_shared(it: Type, other: Type) -> None:
     """Fails if a type cannot have the class of another."""
     if list(map(bound, it.kinds)) != list(map(bound, other.kinds)):
         fail(TABLE, f"{it.name} has not the fields of {other.name}")

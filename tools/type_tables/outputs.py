@@ -68,3 +68,9 @@ def filled(words: Sequence[str], indent: int, width: int, last: str = ",") -> st
 
 def lines(made: Sequence[str]) -> str:
     return "".join(f"{line}\n" for line in made)
+
+
+def joined(names: Sequence[str]) -> str:
+    """Names as a sentence has them: A, B and C."""
+    *others, last = names
+    return f"{', '.join(others)} and {last}" if others else last

@@ -3,11 +3,11 @@
 from __future__ import annotations
 
 import re
-from typing import Iterator, List, Sequence, Tuple
+from typing import Iterator, List, Tuple
 
 from .code import internet_codes
 from .listed import TABLE, Type, TypeList, fail, items, kinds_of, read
-from .outputs import Parts, lines
+from .outputs import Parts, joined, lines
 
 FILE = "docs/DATA.md"
 TEXTS = "crates/dnw_zone_data/specs/DataTexts.antt"
@@ -103,10 +103,6 @@ def special_rows(its: TypeList) -> Iterator[str]:
     yield r"| any other | | octets | 3597, 3 | `\#` |"
 
 
-def listed(names: Sequence[str]) -> str:
-    return f"{', '.join(names[:-1])} and {names[-1]}"
-
-
 def table(its: TypeList, forms: Forms) -> Iterator[str]:
     yield from ("", "| code | type | fields | RFC | text |", "|---|---|---|---|---|")
     for it in its.rows:
@@ -115,7 +111,7 @@ def table(its: TypeList, forms: Forms) -> Iterator[str]:
     yield from special_rows(its)
     yield from ("", "Only IN has these types, which are octets in other classes than IN, NONE and ANY:")
     names = {str(it.code): it.name for it in its.types}
-    yield from (f"{listed([names[code] for code in internet_codes()])}.", "")
+    yield from (f"{joined([names[code] for code in internet_codes()])}.", "")
 
 
 def outputs(its: TypeList) -> List[Parts]:

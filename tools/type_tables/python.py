@@ -107,7 +107,7 @@ def in_order(its: TypeList) -> List[Type]:
         sharing.setdefault(it.like or it.name, []).append(it)
     for name, group in sharing.items():
         for it in group:
-            check_shared(its, it, its.named(name))
+            check_shared(it, its.named(name))
     firsts = [it for it in its.with_class if not it.like]
     return [it for own in firsts for it in [own, *(other for other in sharing[own.name] if other is not own)]]
 

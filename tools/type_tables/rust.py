@@ -8,7 +8,7 @@ from typing import Dict, Iterator, List, Tuple, Union
 
 from .bound import Bound, bound, check_shared
 from .listed import Field, Type, TypeList
-from .outputs import Parts, Whole, filled, lines
+from .outputs import Parts, Whole, filled, joined, lines
 
 CODES, DATA = "rust/src/codes.rs", "rust/src/rdata/table.rs"
 WIDTH = 120
@@ -31,6 +31,11 @@ class Struct:
     fields: List[Tuple[Field, Bound]]
 
     @property
+    def is_own(self) -> bool:
+        """Whether it is named for a type, and is the data of that."""
+        return any(name_of(it.name) == self.name for it in self.types)
+
+    @property
     def head(self) -> str:
         """The name, with the lifetime of what it borrows."""
         return f"{self.name}<'a>" if any("'a" in it.rust for _, it in self.fields) else self.name
@@ -42,8 +47,14 @@ def docs(words: str, indent: int) -> List[str]:
     return [f"{' ' * indent}/// {line}" for line in textwrap.wrap(linked, WIDTH - indent - 4, break_on_hyphens=False)]
 
 
-def struct_name(it: Type) -> str:
-    return OTHER_STRUCTS.get(it.name) or it.like or it.identifier
+def name_of(name: str) -> str:
+    """The name of a variant, and of the struct for it."""
+    return name.replace("-", "")
+
+
+def owner_of(it: Type) -> str:
+    """The name of the type whose struct a type has."""
+    return OTHER_STRUCTS.get(it.name) or it.like or it.name
 
 
 def structs(its: TypeList) -> List[Struct]:
@@ -51,28 +62,25 @@ def structs(its: TypeList) -> List[Struct]:
     types_of: Dict[str, List[Type]] = {}
     for it in its.with_class:
         if len(it.kinds) > 1:
-            types_of.setdefault(struct_name(it), []).append(it)
+            types_of.setdefault(owner_of(it), []).append(it)
     return [struct(its, name, types) for name, types in types_of.items()]
 
 
 def struct(its: TypeList, name: str, types: List[Type]) -> Struct:
-    if name == "Mailboxes":
-        own, (about, fields) = types[0], MAILBOXES
-    else:
-        own = its.named(name)
-        about, fields = own.about, own.fields
+    own = types[0] if name == "Mailboxes" else its.named(name)
+    about, fields = MAILBOXES if name == "Mailboxes" else (own.about, own.fields)
     for it in types:
-        check_shared(its, it, own)
-    return Struct(name, types, about, list(zip(fields, map(bound, own.kinds))))
+        check_shared(it, own)
+    return Struct(name_of(name), types, about, list(zip(fields, map(bound, own.kinds))))
 
 
 def struct_lines(it: Struct) -> Iterator[str]:
-    others = [other.name for other in it.types if other.name != it.name]
-    shared = f" Also the data of {', '.join(others[:-1])}{' and ' if others[1:] else ''}{others[-1]}." if others and it.name != "Mailboxes" else ""
+    others = [other.name for other in it.types if other.name != it.name] if it.is_own else []
+    shared = f" Also the data of {joined(others)}." if others else ""
     yield from docs(f"{it.about}.{shared}", 12)
     yield f"            {it.head} {{"
     for own, kind in it.fields:
-        yield from docs(own.words or own.name, 16)
+        yield from docs(own.words or f"The {own.name.replace('_', ' ')}.", 16)
         yield f"                {own.name}: {kind.rust} = {kind.word},"
     yield "            }"
 
@@ -81,12 +89,12 @@ def variants(its: TypeList, heads: Dict[str, str]) -> Tuple[List[str], List[str]
     """The lines of the variants with one value, and of those with a struct."""
     one, several = [], []
     for it in its.with_class:
-        name = it.name.replace("-", "")
+        name = name_of(it.name)
         if len(it.kinds) == 1:
             kind = bound(it.kinds[0])
             one += [*docs(f"{it.about}.", 16), f"                {name} = {it.code}: {kind.rust} = {kind.word},"]
         else:
-            several += [*docs(f"{it.about}.", 16), f"                {name} = {it.code}: {heads[struct_name(it)]},"]
+            several += [*docs(f"{it.about}.", 16), f"                {name} = {it.code}: {heads[name_of(owner_of(it))]},"]
     return one, several
 
 
@@ -101,7 +109,7 @@ def data(its: TypeList) -> str:
     bodies = [list(struct_lines(it)) for it in made]
     each = [line for body in bodies for line in ([""] + body if body is not bodies[0] else body)]
     one, several = variants(its, {it.name: it.head for it in made})
-    own = filled([it.head for it in made if it.name != "Mailboxes"], 12, WIDTH + 8).splitlines()
+    own = filled([it.head for it in made if it.is_own], 12, WIDTH + 8).splitlines()
     return lines(
         [
             "//! The table of the data of all types, from which the borrowed and the owned form are made.",
