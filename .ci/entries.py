@@ -6,7 +6,7 @@ import subprocess
 
 ROOT = pathlib.Path(__file__).resolve().parent.parent
 LIST, CODES = "crates/dnw_data/specs/Table.antt", "tools/codes.txt"
-EXAMPLES, TEXTS = "diff/rows/fields.txt", "diff/rows/data_texts.txt"
+EXAMPLES, TEXTS, AMPLE = "diff/rows/fields.txt", "diff/rows/data_texts.txt", "c/test_ample_types.c"
 # What tools/types reads and writes, and the script itself.
 PATHS = [
     "tools/types",
@@ -19,6 +19,7 @@ PATHS = [
     "crates/dnw_zone_data/specs",
     "include",
     "c/test.c",
+    AMPLE,
     "rust/src",
     "python/dns_names_wire",
     "docs/DATA.md",
