@@ -1,5 +1,5 @@
 -- Data that are copied, or read elsewhere as the same pieces, have the kinds of field that they had.
-use Rattle.std.proofs.Common.{◌≡◌, ℕ, zero, suc, ◌+◌, ◌-◌, ◌<◌, ◌≤◌, ◌^◌, Bool, false, inl, inr, List, [], ◌∷◌, length, map, take, drop, slice_index, refl, sym, ap, ◌∙◌, subst, arith, length-drop}
+use Rattle.std.proofs.Common.{◌≡◌, ℕ, zero, suc, ◌+◌, ◌-◌, ◌≤◌, false, inl, inr, List, [], ◌∷◌, length, take, drop, slice_index, refl, sym, ap, ◌∙◌, subst, arith, length-drop}
 use Rattle.std.proofs.lemmas.Bool.{cases_Bool}
 use Rattle.std.proofs.lemmas.List.{length-take-le, nil_from_length}
 use Rattle.dnw_base.specs.declared.dns_class.DNSClass.{DNSClass}
@@ -16,7 +16,7 @@ use Rattle.dnw_data.proofs.Codes.{class_back, code_back}
 use Rattle.dnw_data.proofs.Rows.{Alike, alike_fields, first_of, size_some}
 use Rattle.dnw_record.specs.Records.{RecordValue}
 use Rattle.dnw_record.specs.declared.record.Record.{Record}
-use Rattle.dnw_record.specs.DataPieces.{DataPiece, HasPieces, IsData, data_kinds, kinds_of, octets_of, piece_octets}
+use Rattle.dnw_record.specs.DataPieces.{DataPiece, HasPieces, IsData, data_kinds, kinds_of, piece_octets}
 use Rattle.dnw_record.specs.DataCopies.{Copies, TakesOwnPiece, TakesPieces, alone, data_start, kinds_at, record_kinds}
 use Rattle.dnw_record.proofs.Pieces.{are_pieces, whole_pieces}
 

@@ -4,7 +4,7 @@
 ghost use Rattle.dnw_write_script.specs.ScriptLaws.{RunsReply, RunsFinish, RunsStayUseful, RunsAreShortest, RunsStayBounded, RunsUndoRecords, StandingRecordsAreRead};
 ghost use Rattle.dnw_write_script.specs.ScriptLaws.{PartsOfScriptsStayBounded, ItemsOfScriptsStayBounded};
 
-use dnw_record::laws;
+use crate::record_laws;
 
 /// Each step has the reply that its definition says.
 #[tactic(auto, using(crate::proofs::Running::runs_reply))]
@@ -37,7 +37,7 @@ pub fn runs_stay_bounded()
 pub fn refused_records_undo()
     ensures { RunsUndoRecords }
 {
-    laws::refused_records_undo();
+    record_laws::refused_records_undo();
 }
 
 /// A record of a script is read where it stands in the finished bytes, with its owner, its fields and its data.

@@ -1,5 +1,4 @@
 use Rattle.std.proofs.Common.{◌++◌, ap, ◌∙◌}
-use Rattle.dnw_record.specs.DataCopies.{TakesPieces}
 use Rattle.dnw_record.proofs.Alike.{copied_data}
 use Rattle.dnw_record.proofs.rdata.RData.copied.Goals as goal
 

@@ -1,8 +1,0 @@
-use Rattle.std.proofs.Common.{drop}
-use Rattle.std.specs.String.{string_bytes}
-use Rattle.dnw.specs.Shown.{texts_of}
-use Rattle.dnw.proofs.Lines.{HasLines}
-use Rattle.dnw.proofs.names.shown.push_lines.Given as goal
-
-abbrev pub invariant-words : goal.invariant-words
-invariant-words l = HasLines l.fn.shown (texts_of l.fn.words) (texts_of (drop l.word-index l.fn.words)) (string_bytes l.text)

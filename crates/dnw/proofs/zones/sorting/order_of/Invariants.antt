@@ -1,7 +1,0 @@
-use Rattle.std.proofs.Common.{◌≡◌}
-use Rattle.std.specs.Prelude.{take}
-use Rattle.dnw.specs.Inside.Rows.{numbers}
-use Rattle.dnw.proofs.zones.sorting.order_of.Given as goal
-
-abbrev pub invariant-loop-row : goal.invariant-loop-row
-invariant-loop-row l = l.order.items ≡ take l.row-index (numbers l.row-items)

@@ -1,0 +1,232 @@
+//! Why there is no answer.
+
+use crate::base::misuse::Misuse;
+use dns_names_wire::data_text::RecordEntryError;
+use dns_names_wire::dnssec::DnssecError;
+use dns_names_wire::message::{EdnsError, MessageError};
+use dns_names_wire::message_writer::WriteError;
+use dns_names_wire::name_text::NameTextError;
+use dns_names_wire::rdata::RDataError;
+use dns_names_wire::zone::CheckError;
+use dns_names_wire::{DecodeError, ProtoError};
+use std::alloc::{AllocError, AllocFailed};
+use std::io;
+use thiserror::Error;
+
+/// Why there is no answer.
+#[derive(Debug, Drop, Error)]
+pub(crate) enum Refusal {
+    /// The words ask for nothing that the program does.
+    #[error("{0}")]
+    Usage(Misuse),
+    /// Standard input could not be read.
+    #[error("refused: standard input: {0}")]
+    Input(io::Error),
+    /// A file could not be opened or read.
+    #[error("refused: {file}: {error}")]
+    File {
+        /// The file.
+        file: String,
+        /// What is wrong.
+        error: io::Error,
+    },
+    /// The system gave no random octets.
+    #[error("refused: no random id: {0}")]
+    Chance(io::Error),
+    /// A name was refused, or memory ran out.
+    #[error("refused: {0}")]
+    Proto(ProtoError),
+    /// A text gives no name.
+    #[error("refused: {0}")]
+    Name(NameTextError),
+    /// A message was refused.
+    #[error("refused: {0}")]
+    Message(MessageError),
+    /// There is something else than hexadecimal digits, two for each octet.
+    #[error("refused: wanted hexadecimal digits, two for each octet")]
+    Digits,
+    /// A stream of messages ends within a length or a message.
+    #[error("refused: wanted {wanted} octets, found {found}")]
+    Cut {
+        /// How many octets the length, or the message, has.
+        wanted: usize,
+        /// How many are left.
+        found: usize,
+    },
+    /// Some of many messages were refused: the text of all, with the lines that say why.
+    #[error("{0}")]
+    Messages(String),
+    /// The options of a query are too many.
+    #[error("refused: the options have more than 32768 octets")]
+    Options,
+    /// An `OPT` record is outside the additional section, or a name or a record could not be read.
+    #[error("refused: {0}")]
+    Decode(DecodeError),
+    /// What the additional section says by EDNS was refused.
+    #[error("refused: Additionals from offset {offset} on: {error}")]
+    Edns {
+        /// The offset at which the additional records begin.
+        offset: usize,
+        /// What is wrong.
+        error: EdnsError,
+    },
+    /// A message has no room for an item.
+    #[error("refused: {0}")]
+    Write(WriteError),
+    /// A text is no record.
+    #[error("refused: {0}")]
+    Entry(RecordEntryError),
+    /// The data of a record are not those of its type.
+    #[error("refused: {0}")]
+    Data(RDataError),
+    /// There is no sum.
+    #[error("refused: {0}")]
+    Sum(DnssecError),
+    /// A zone is not checked.
+    #[error("refused: {0}")]
+    Check(CheckError),
+    /// A zone file has entries that are none: the lines that say where, and why.
+    #[error("{0}")]
+    Zone(String),
+}
+
+impl From<Misuse> for Refusal {
+    ghost use Rattle.std.specs.Prelude.{◌≡◌};
+    ghost use Rattle.dnw_commands.specs.declared.base.refusal.Refusal.TheVariants.{Usage};
+
+    ghost from_gives = { λ error refusal. refusal ≡ Usage error };
+
+    fn from(e: Misuse) -> Self {
+        Refusal::Usage(e)
+    }
+}
+
+impl From<NameTextError> for Refusal {
+    ghost use Rattle.std.specs.Prelude.{◌≡◌};
+    ghost use Rattle.dnw_commands.specs.declared.base.refusal.Refusal.TheVariants.{Name};
+
+    ghost from_gives = { λ error refusal. refusal ≡ Name error };
+
+    fn from(e: NameTextError) -> Self {
+        Refusal::Name(e)
+    }
+}
+
+impl From<io::Error> for Refusal {
+    ghost use Rattle.std.specs.Prelude.{◌≡◌};
+    ghost use Rattle.dnw_commands.specs.declared.base.refusal.Refusal.TheVariants.{Input};
+
+    ghost from_gives = { λ error refusal. refusal ≡ Input error };
+
+    fn from(e: io::Error) -> Self {
+        Refusal::Input(e)
+    }
+}
+
+impl From<ProtoError> for Refusal {
+    ghost use Rattle.std.specs.Prelude.{◌≡◌};
+    ghost use Rattle.dnw_commands.specs.declared.base.refusal.Refusal.TheVariants.{Proto};
+
+    ghost from_gives = { λ error refusal. refusal ≡ Proto error };
+
+    fn from(e: ProtoError) -> Self {
+        Refusal::Proto(e)
+    }
+}
+
+impl From<MessageError> for Refusal {
+    ghost use Rattle.std.specs.Prelude.{◌≡◌};
+    ghost use Rattle.dnw_commands.specs.declared.base.refusal.Refusal.TheVariants.{Message};
+
+    ghost from_gives = { λ error refusal. refusal ≡ Message error };
+
+    fn from(e: MessageError) -> Self {
+        Refusal::Message(e)
+    }
+}
+
+impl From<DecodeError> for Refusal {
+    ghost use Rattle.std.specs.Prelude.{◌≡◌};
+    ghost use Rattle.dnw_commands.specs.declared.base.refusal.Refusal.TheVariants.{Decode};
+
+    ghost from_gives = { λ error refusal. refusal ≡ Decode error };
+
+    fn from(e: DecodeError) -> Self {
+        Refusal::Decode(e)
+    }
+}
+
+impl From<WriteError> for Refusal {
+    ghost use Rattle.std.specs.Prelude.{◌≡◌};
+    ghost use Rattle.dnw_commands.specs.declared.base.refusal.Refusal.TheVariants.{Write};
+
+    ghost from_gives = { λ error refusal. refusal ≡ Write error };
+
+    fn from(e: WriteError) -> Self {
+        Refusal::Write(e)
+    }
+}
+
+impl From<RecordEntryError> for Refusal {
+    ghost use Rattle.std.specs.Prelude.{◌≡◌};
+    ghost use Rattle.dnw_commands.specs.declared.base.refusal.Refusal.TheVariants.{Entry};
+
+    ghost from_gives = { λ error refusal. refusal ≡ Entry error };
+
+    fn from(e: RecordEntryError) -> Self {
+        Refusal::Entry(e)
+    }
+}
+
+impl From<RDataError> for Refusal {
+    ghost use Rattle.std.specs.Prelude.{◌≡◌};
+    ghost use Rattle.dnw_commands.specs.declared.base.refusal.Refusal.TheVariants.{Data};
+
+    ghost from_gives = { λ error refusal. refusal ≡ Data error };
+
+    fn from(e: RDataError) -> Self {
+        Refusal::Data(e)
+    }
+}
+
+impl From<DnssecError> for Refusal {
+    ghost use Rattle.std.specs.Prelude.{◌≡◌};
+    ghost use Rattle.dnw_commands.specs.declared.base.refusal.Refusal.TheVariants.{Sum};
+
+    ghost from_gives = { λ error refusal. refusal ≡ Sum error };
+
+    fn from(e: DnssecError) -> Self {
+        Refusal::Sum(e)
+    }
+}
+
+impl From<CheckError> for Refusal {
+    ghost use Rattle.std.specs.Prelude.{◌≡◌};
+    ghost use Rattle.dnw_commands.specs.declared.base.refusal.Refusal.TheVariants.{Check};
+
+    ghost from_gives = { λ error refusal. refusal ≡ Check error };
+
+    fn from(e: CheckError) -> Self {
+        Refusal::Check(e)
+    }
+}
+
+impl<T: Drop> From<AllocFailed<T>> for Refusal {
+    ghost use Rattle.dnw_commands.specs.Refusals.{IsMemory};
+
+    ghost from_gives = { λ _ refusal. IsMemory refusal };
+
+    fn from(_: AllocFailed<T>) -> Self {
+        Refusal::Proto(ProtoError::Memory)
+    }
+}
+
+impl From<AllocError> for Refusal {
+    ghost use Rattle.dnw_commands.specs.Refusals.{IsMemory};
+
+    ghost from_gives = { λ _ refusal. IsMemory refusal };
+
+    fn from(_: AllocError) -> Self {
+        Refusal::Proto(ProtoError::Memory)
+    }
+}
