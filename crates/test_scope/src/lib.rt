@@ -2,10 +2,38 @@
 #![tactic(auto)]
 
 #[cfg(test)]
+mod binary;
+#[cfg(test)]
 mod bounds;
+#[cfg(test)]
+mod codes;
 #[cfg(test)]
 mod decoder;
 #[cfg(test)]
+mod encoder;
+#[cfg(test)]
 mod error;
 #[cfg(test)]
+mod label;
+#[cfg(test)]
+mod lower_name;
+#[cfg(test)]
+mod name;
+#[cfg(test)]
+mod name_ref;
+#[cfg(test)]
+mod net;
+#[cfg(test)]
+mod record;
+#[cfg(test)]
 mod restrict;
+#[cfg(test)]
+mod reverse;
+#[cfg(test)]
+mod rr_key;
+#[cfg(test)]
+mod script;
+#[cfg(test)]
+mod txt;
+#[cfg(test)]
+mod usage;
