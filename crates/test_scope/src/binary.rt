@@ -33,13 +33,25 @@ fn values_of_nine_types_are_written(rt: HostRuntime) -> Result<(), Fail> {
     for (written, wanted) in [
         (written::<u16>(alloc, &1)?, b"\x00\x01\x00\x01".as_slice()),
         (written::<i32>(alloc, &-1)?, &[255; 8]),
-        (written::<u32>(alloc, &1)?, b"\x00\x00\x00\x01\x00\x00\x00\x01"),
+        (
+            written::<u32>(alloc, &1)?,
+            b"\x00\x00\x00\x01\x00\x00\x00\x01",
+        ),
         (written::<Vec<u8>>(alloc, &bytes)?, b"abab"),
         (written::<Name>(alloc, &name)?, b"\x01A\x00\x01A\x00"),
         (written::<LowerName>(alloc, &lower)?, b"\x01a\x00\x01a\x00"),
-        (written::<RecordType>(alloc, &types[1])?, b"\x00\x02\x00\x02"),
-        (written::<DNSClass>(alloc, &DNSClass::IN)?, b"\x00\x01\x00\x01"),
-        (written::<RecordTypeSet>(alloc, &set)?, b"\x00\x01\x60\x00\x01\x60"),
+        (
+            written::<RecordType>(alloc, &types[1])?,
+            b"\x00\x02\x00\x02",
+        ),
+        (
+            written::<DNSClass>(alloc, &DNSClass::IN)?,
+            b"\x00\x01\x00\x01",
+        ),
+        (
+            written::<RecordTypeSet>(alloc, &set)?,
+            b"\x00\x01\x60\x00\x01\x60",
+        ),
     ] {
         assert_eq!(rt; written.as_slice(), wanted);
     }
@@ -47,7 +59,10 @@ fn values_of_nine_types_are_written(rt: HostRuntime) -> Result<(), Fail> {
 }
 
 /// Reads a value twice.
-fn read<'r, D: BinDecodable<'r> + Drop>(alloc: Global, bytes: &'r [u8]) -> Result<[D; 2], DecodeError> {
+fn read<'r, D: BinDecodable<'r> + Drop>(
+    alloc: Global,
+    bytes: &'r [u8],
+) -> Result<[D; 2], DecodeError> {
     let mut decoder = BinDecoder::new(bytes);
     let read: Result<D, DecodeError> = D::read(alloc, &mut decoder);
     let whole: Result<D, DecodeError> = D::from_bytes(alloc, bytes);
@@ -60,8 +75,14 @@ fn values_of_seven_types_are_read(rt: HostRuntime) -> Result<(), Fail> {
     assert_eq!(rt; read::<u16>(alloc, b"\x00\x01")?, [1, 1]);
     assert_eq!(rt; read::<i32>(alloc, &[255; 4])?, [-1, -1]);
     assert_eq!(rt; read::<u32>(alloc, b"\x00\x00\x00\x01")?, [1, 1]);
-    assert_eq!(rt; read::<RecordType>(alloc, b"\x00\x02")?, [RecordType::NS, RecordType::NS]);
-    assert_eq!(rt; read::<DNSClass>(alloc, b"\x00\x01")?, [DNSClass::IN, DNSClass::IN]);
+    assert_eq!(rt;
+        read::<RecordType>(alloc, b"\x00\x02")?,
+        [RecordType::NS, RecordType::NS]
+    );
+    assert_eq!(rt;
+        read::<DNSClass>(alloc, b"\x00\x01")?,
+        [DNSClass::IN, DNSClass::IN]
+    );
     let names = read::<Name>(alloc, b"\x01A\x00")?;
     let lower = read::<LowerName>(alloc, b"\x01A\x00")?;
     assert!(rt; names[0] == Name::from_ascii(alloc, "A.")? && names[0] == names[1]);

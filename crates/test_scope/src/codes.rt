@@ -69,7 +69,10 @@ fn types_have_codes_and_texts(rt: HostRuntime) -> Result<(), Fail> {
         assert_eq!(rt; of_code, record_type);
         assert_eq!(rt; format!(in alloc; "{record_type}")?.as_str(), text);
         let parsed: Result<RecordType, DecodeError> = RecordType::from_str(alloc, text);
-        if matches!(record_type, RecordType::IXFR | RecordType::OPT | RecordType::ZERO) {
+        if matches!(
+            record_type,
+            RecordType::IXFR | RecordType::OPT | RecordType::ZERO
+        ) {
             assert!(rt; matches!(parsed, Err(DecodeError::UnknownRecordTypeStr(_))));
         } else {
             assert_eq!(rt; parsed?, record_type);
@@ -154,8 +157,14 @@ fn classes_have_codes_and_texts(rt: HostRuntime) -> Result<(), Fail> {
     }
     let opt: DNSClass = DNSClass::for_opt(100u16);
     let unknown: DNSClass = DNSClass::from(512);
-    assert_eq!(rt; (opt, unknown), (DNSClass::OPT(512u16), DNSClass::Unknown(512u16)));
-    assert_eq!(rt; format!(in alloc; "{opt} {unknown}")?.as_str(), "OPT UNKNOWN");
+    assert_eq!(rt;
+        (opt, unknown),
+        (DNSClass::OPT(512u16), DNSClass::Unknown(512u16))
+    );
+    assert_eq!(rt;
+        format!(in alloc; "{opt} {unknown}")?.as_str(),
+        "OPT UNKNOWN"
+    );
     let refused = DNSClass::from_str(alloc, "OPT");
     assert!(rt; matches!(refused, Err(DecodeError::UnknownDnsClassStr(_))));
     Ok(())
@@ -177,8 +186,10 @@ fn serial_numbers_wrap(rt: HostRuntime) {
     is_debug::<SerialNumber>();
     is_eq::<SerialNumber>();
     is_hash::<SerialNumber>();
-    let (last, zero): (SerialNumber, SerialNumber) =
-        (SerialNumber::new(4294967295u32), SerialNumber::from(0u32));
+    let (last, zero): (SerialNumber, SerialNumber) = (
+        SerialNumber::new(4294967295u32),
+        SerialNumber::from(0u32),
+    );
     let next: SerialNumber = last + SerialNumber::new(1);
     let number: u32 = next.get();
     assert_eq!(rt; number, 0);
@@ -193,14 +204,19 @@ fn sets_have_types(rt: HostRuntime) -> Result<(), Fail> {
     is_debug::<RecordTypeSet>();
     is_eq::<RecordTypeSet>();
     is_hash::<RecordTypeSet>();
-    let made: ProtoResult<RecordTypeSet> =
-        RecordTypeSet::new(rt.alloc(), [RecordType::NS, RecordType::A]);
+    let made: ProtoResult<RecordTypeSet> = RecordTypeSet::new(
+        rt.alloc(),
+        [RecordType::NS, RecordType::A],
+    );
     let made = made?;
     let (has, lacks): (bool, bool) = (made.contains(RecordType::A), made.contains(RecordType::MX));
     assert!(rt; has && !lacks);
     let mut types: TypeIter<'_> = made.iter();
     let first: Option<RecordType> = types.next();
-    assert_eq!(rt; (first, types.next()), (Some(RecordType::A), Some(RecordType::NS)));
+    assert_eq!(rt;
+        (first, types.next()),
+        (Some(RecordType::A), Some(RecordType::NS))
+    );
     assert!(rt; types.next().is_none());
     let copy: ProtoResult<RecordTypeSet> = made.clone();
     assert!(rt; copy? == made);
@@ -214,8 +230,7 @@ fn data<'r, D: RecordDataDecodable<'r>>(
     length: u16,
 ) -> Result<D, DecodeError> {
     let mut decoder = BinDecoder::new(bytes);
-    let read: Result<D, DecodeError> =
-        D::read_data(alloc, &mut decoder, Restrict::new(length));
+    let read: Result<D, DecodeError> = D::read_data(alloc, &mut decoder, Restrict::new(length));
     read
 }
 

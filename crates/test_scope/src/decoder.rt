@@ -62,7 +62,12 @@ fn bytes_are_lent_and_copied(rt: HostRuntime) -> Result<(), Fail> {
     let after: Result<&[u8], DecodeError> = decoder.slice_from(5);
     assert!(rt; matches!(after, Err(DecodeError::InvalidPreviousIndex)));
     let mut cut = BinDecoder::new(b"\x05a");
-    assert!(rt; matches!(cut.read_character_data(), Err(DecodeError::InsufficientBytes)));
+    assert!(rt;
+        matches!(
+            cut.read_character_data(),
+            Err(DecodeError::InsufficientBytes)
+        )
+    );
     assert_eq!(rt; cut.index(), 0);
     Ok(())
 }

@@ -11,8 +11,11 @@ use std::test::Fail;
 fn an_encoder_has_an_offset_and_a_mode(rt: HostRuntime) -> Result<(), Fail> {
     let mut bytes = Vec::from_slice(rt.alloc(), b"\x01\x02\x03")?;
     let mut encoder: BinEncoder<'_> = BinEncoder::with_offset(&mut bytes, 1u32);
-    let (len, offset, is_empty): (usize, usize, bool) =
-        (encoder.len(), encoder.offset(), encoder.is_empty());
+    let (len, offset, is_empty): (usize, usize, bool) = (
+        encoder.len(),
+        encoder.offset(),
+        encoder.is_empty(),
+    );
     assert_eq!(rt; (len, offset, is_empty), (3, 1, false));
     encoder.set_offset(2usize);
     encoder.trim();
@@ -95,8 +98,9 @@ fn guards_set_a_mode(rt: HostRuntime) -> Result<(), Fail> {
     let name = Name::from_ascii(rt.alloc(), "A.")?;
     let mut bytes = Vec::new(rt.alloc());
     let mut encoder = BinEncoder::new(&mut bytes);
-    let mut guard: ModalEncoder<'_, '_> =
-        encoder.with_name_encoding(NameEncoding::UncompressedLowercase);
+    let mut guard: ModalEncoder<'_, '_> = encoder.with_name_encoding(
+        NameEncoding::UncompressedLowercase,
+    );
     let lent: &BinEncoder<'_> = &guard;
     assert!(rt; lent.is_empty());
     let lent: &mut BinEncoder<'_> = &mut guard;
@@ -165,6 +169,9 @@ fn places_are_filled(rt: HostRuntime) -> Result<(), Fail> {
     let replaced: ProtoResult<()> = second.replace(&mut encoder, 8u16);
     filled?;
     replaced?;
-    assert_eq!(rt; encoder.into_bytes().as_slice(), b"\x00\x07\x00\x08\x2a".as_slice());
+    assert_eq!(rt;
+        encoder.into_bytes().as_slice(),
+        b"\x00\x07\x00\x08\x2a".as_slice()
+    );
     Ok(())
 }

@@ -48,11 +48,17 @@ fn errors_of_the_wire_layer(rt: HostRuntime) -> Result<(), Fail> {
     let texts = proto_texts(alloc, &errors)?;
     assert_eq!(rt; texts.len(), 11);
     assert_eq!(rt; texts[0].as_str(), "char data length exceeds 255: 256");
-    assert_eq!(rt; texts[1].as_str(), "decoding error: unexpected end of input reached");
+    assert_eq!(rt;
+        texts[1].as_str(),
+        "decoding error: unexpected end of input reached"
+    );
     assert_eq!(rt; texts[2].as_str(), "maximum buffer size exceeded: 5");
     assert_eq!(rt; texts[3].as_str(), "fixed");
     assert_eq!(rt; texts[4].as_str(), "text");
-    assert_eq!(rt; texts[5].as_str(), "not all records could be written, wrote: 2");
+    assert_eq!(rt;
+        texts[5].as_str(),
+        "not all records could be written, wrote: 2"
+    );
     assert_eq!(rt; texts[10].as_str(), "out of memory");
     Ok(())
 }

@@ -39,8 +39,11 @@ fn labels_are_looked_at_and_printed(rt: HostRuntime) -> Result<(), Fail> {
     is_debug::<Label>();
     is_display::<Label>();
     let label = Label::from_raw_bytes(alloc, b"-A")?;
-    let (len, is_empty, is_wildcard): (usize, bool, bool) =
-        (label.len(), label.is_empty(), label.is_wildcard());
+    let (len, is_empty, is_wildcard): (usize, bool, bool) = (
+        label.len(),
+        label.is_empty(),
+        label.is_wildcard(),
+    );
     let bytes: &[u8] = label.as_bytes();
     assert_eq!(rt; (len, is_empty, is_wildcard), (2, false, false));
     assert_eq!(rt; bytes, b"-A".as_slice());
@@ -71,7 +74,10 @@ fn labels_are_compared(rt: HostRuntime) -> Result<(), Fail> {
     let by_octets: Ordering = small.cmp_with_f::<CaseSensitive>(&capital);
     let by_letters: Ordering = small.cmp_with_f::<CaseInsensitive>(&capital);
     assert!(rt; is_same);
-    assert_eq!(rt; (by_octets, by_letters), (Ordering::Greater, Ordering::Equal));
+    assert_eq!(rt;
+        (by_octets, by_letters),
+        (Ordering::Greater, Ordering::Equal)
+    );
     let equal = (true, false, Some(Ordering::Equal), Ordering::Equal);
     assert!(rt; compared(&small, &capital) == equal);
     Ok(())
@@ -101,8 +107,14 @@ fn labels_come_from_six_types(rt: HostRuntime) -> Result<(), Fail> {
     assert_eq!(rt; label_len::<&Label>(alloc, &label)?, 1);
     assert_eq!(rt; label_len::<Label>(alloc, label)?, 1);
     assert_eq!(rt; label_len::<&str>(alloc, "ab")?, 2);
-    assert_eq!(rt; label_len::<String>(alloc, String::from_str(alloc, "abc")?)?, 3);
+    assert_eq!(rt;
+        label_len::<String>(alloc, String::from_str(alloc, "abc")?)?,
+        3
+    );
     assert_eq!(rt; label_len::<&[u8]>(alloc, b"a.b.")?, 4);
-    assert_eq!(rt; label_len::<Vec<u8>>(alloc, Vec::from_slice(alloc, b"a.b.c")?)?, 5);
+    assert_eq!(rt;
+        label_len::<Vec<u8>>(alloc, Vec::from_slice(alloc, b"a.b.c")?)?,
+        5
+    );
     Ok(())
 }

@@ -1,4 +1,7 @@
-//! The port's public surface, item by item: each is named by its module, and called with its types written out.
+//! The port's public surface, item by item, over the one crate that users see. Each item is named by its module and called with
+//! its types written out, so what is renamed, or returns another type, does not compile.
+//!
+//! A file has the calls of a module. `name_ref` and `reverse` have those of `name` too, and `marks` those of `encoder`.
 #![tactic(auto)]
 
 #[cfg(test)]
@@ -17,6 +20,8 @@ mod error;
 mod label;
 #[cfg(test)]
 mod lower_name;
+#[cfg(test)]
+mod marks;
 #[cfg(test)]
 mod name;
 #[cfg(test)]

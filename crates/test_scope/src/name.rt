@@ -86,8 +86,10 @@ fn names_are_cut_and_lowered(rt: HostRuntime) -> Result<(), Fail> {
     let wildcard: ProtoResult<Name> = copy?.into_wildcard();
     let wildcard = wildcard?;
     assert_eq!(rt; text(alloc, &wildcard)?.as_str(), "*.Example.com.");
-    let (is_wildcard, is_localhost): (bool, bool) =
-        (wildcard.is_wildcard(), wildcard.is_localhost());
+    let (is_wildcard, is_localhost): (bool, bool) = (
+        wildcard.is_wildcard(),
+        wildcard.is_localhost(),
+    );
     assert!(rt; is_wildcard && !is_localhost);
     Ok(())
 }
@@ -121,7 +123,10 @@ fn texts_of_names(rt: HostRuntime) -> Result<(), Fail> {
     assert_eq!(rt; format!(in alloc; "{ascii:?}")?.as_str(), "Name(\"A.b\")");
     assert!(rt; ascii == relaxed? && ascii == strict?);
     assert!(rt;
-        matches!(name(alloc, "\\"), Err(ProtoError::Message("unfinished escape")))
+        matches!(
+            name(alloc, "\\"),
+            Err(ProtoError::Message("unfinished escape"))
+        )
     );
     Ok(())
 }
@@ -142,7 +147,10 @@ fn names_are_compared(rt: HostRuntime) -> Result<(), Fail> {
     let greater = (false, false, Some(Ordering::Greater), Ordering::Greater);
     assert!(rt; compared(&small, &capital) == greater);
     let zone = name(alloc, "B.")?;
-    let (is_zone, is_zone_by_case): (bool, bool) = (zone.zone_of(&small), zone.zone_of_case(&small));
+    let (is_zone, is_zone_by_case): (bool, bool) = (
+        zone.zone_of(&small),
+        zone.zone_of_case(&small),
+    );
     assert!(rt; is_zone && !is_zone_by_case);
     Ok(())
 }

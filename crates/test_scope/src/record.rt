@@ -38,6 +38,7 @@ fn server(alloc: Global) -> Result<WireRecord, Fail> {
 }
 
 const ADDRESS: &[u8] = b"\x01a\x00\x00\x01\x00\x01\x00\x00\x01\x2c\x00\x04\x01\x02\x03\x04";
+
 const SERVER: &[u8] = b"\xc0\x00\x00\x02\x00\x01\x00\x00\x01\x2c\x00\x04\x01b\xc0\x00";
 
 #[test]
@@ -96,7 +97,10 @@ fn records_are_read(rt: HostRuntime) -> Result<(), Fail> {
     let owner: &NameRef<'_> = read.owner();
     assert_eq!(rt; owner.encoded_len(), 3);
     let (record_type, class, ttl, rdata) = parts(&read);
-    assert_eq!(rt; (record_type, class, ttl), (RecordType::A, DNSClass::IN, 300));
+    assert_eq!(rt;
+        (record_type, class, ttl),
+        (RecordType::A, DNSClass::IN, 300)
+    );
     assert_eq!(rt; rdata, b"\x01\x02\x03\x04".as_slice());
     let message = b"\x00\x00\x02\x00\x01\x00\x00\x00\x00\x00\x04\x01a\x00\x00";
     let whole: Result<RecordRef<'_>, DecodeError> = RecordRef::from_bytes(alloc, message);

@@ -95,7 +95,10 @@ fn each_step_has_a_reply(rt: HostRuntime) -> Result<(), Fail> {
 #[test]
 fn a_step_is_refused(rt: HostRuntime) -> Result<(), Fail> {
     let alloc = rt.alloc();
-    let steps = [Step::Max(10), Step::Name(Name::from_ascii(alloc, "abcdefghij.")?)];
+    let steps = [
+        Step::Max(10),
+        Step::Name(Name::from_ascii(alloc, "abcdefghij.")?),
+    ];
     let mut buffer = Vec::new(alloc);
     let replies = run(alloc, &mut buffer, &steps)?;
     let [Reply::Done { len: 0 }, Reply::Refused { error, len }] = replies.as_slice() else {
@@ -115,8 +118,10 @@ fn limits_are_given(rt: HostRuntime) -> Result<(), Fail> {
         Step::Name(Name::from_ascii(alloc, "a.")?),
     ];
     let mut buffer: Vec<u8> = Vec::new(alloc);
-    let replies: ProtoResult<Vec<Reply>> =
-        run_limited(alloc, &mut buffer, &steps, 64usize, 0usize);
-    assert_eq!(rt; lens(alloc, replies?.as_slice())?.as_slice(), [3, 6].as_slice());
+    let replies: ProtoResult<Vec<Reply>> = run_limited(alloc, &mut buffer, &steps, 64usize, 0usize);
+    assert_eq!(rt;
+        lens(alloc, replies?.as_slice())?.as_slice(),
+        [3, 6].as_slice()
+    );
     Ok(())
 }

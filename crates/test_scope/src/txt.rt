@@ -49,7 +49,9 @@ fn each_token_is_found(rt: HostRuntime) -> Result<(), Fail> {
     is_debug::<Token>();
     is_eq::<Token>();
     let tokens = tokens(alloc, " (a b) c @ $INCLUDE $ORIGIN $TTL \n")?;
-    let wanted = ["Blank", "List 2", "c", "At", "Include", "Origin", "Ttl", "EOL"];
+    let wanted = [
+        "Blank", "List 2", "c", "At", "Include", "Origin", "Ttl", "EOL",
+    ];
     assert_eq!(rt; tokens.len(), wanted.len());
     for at in 0..wanted.len().min(tokens.len()) {
         let copy: Result<Token, LexerError> = tokens[at].clone();
