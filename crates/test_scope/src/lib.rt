@@ -1,7 +1,10 @@
 //! The port's public surface, item by item, over the one crate that users see. Each item is named by its module and called with
-//! its types written out, so what is renamed, or returns another type, does not compile.
+//! its types written out, so what is renamed, or has another type, does not compile.
 //!
-//! A file has the calls of a module. `name_ref` and `reverse` have those of `name` too, and `marks` those of `encoder`.
+//! These names and types are fixed. If a file here does not compile after a change, the change is wrong, and not the file.
+//!
+//! A file has what belongs to a module; `name_ref` and `reverse` are of `name` too, and `marks` is of `encoder`. `tools/test scope`
+//! runs the tests, and nothing here is proved.
 #![tactic(auto)]
 
 #[cfg(test)]

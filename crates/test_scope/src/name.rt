@@ -35,22 +35,26 @@ fn names_without_labels(rt: HostRuntime) {
     assert!(rt; !is_empty);
 }
 
+/// Returns the first label and the last one, which the name lends.
+fn ends<'a>(name: &'a Name) -> (Option<&'a [u8]>, Option<&'a [u8]>) {
+    let mut labels: LabelIter<'a> = name.iter();
+    (labels.next(), labels.next_back())
+}
+
 #[test]
 fn labels_go_both_ways(rt: HostRuntime) -> Result<(), Fail> {
     let name = name(rt.alloc(), "www.example.com")?;
-    let mut labels: LabelIter<'_> = name.iter();
-    let first: Option<&[u8]> = labels.next();
-    let last: Option<&[u8]> = labels.next_back();
+    let (first, last) = ends(&name);
     assert_eq!(rt; first, Some(b"www".as_slice()));
     assert_eq!(rt; last, Some(b"com".as_slice()));
-    let left: usize = labels.len();
-    assert_eq!(rt; left, 1);
-    let mut count = 0;
+    let count: usize = name.iter().len();
+    assert_eq!(rt; count, 3);
+    let mut size = 0;
     for label in &name {
         let label: &[u8] = label;
-        count += label.len().min(9);
+        size += label.len();
     }
-    assert_eq!(rt; count, 13);
+    assert_eq!(rt; size, 13);
     Ok(())
 }
 

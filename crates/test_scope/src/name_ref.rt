@@ -24,12 +24,17 @@ fn borrowed_names_are_read(rt: HostRuntime) -> Result<(), Fail> {
     let mut steps = ReadSteps::default();
     let name = last(MESSAGE, &mut steps)?;
     assert_eq!(rt; (steps.pointers, steps.labels), (1, 4));
-    let mut labels: RefLabels<'_> = name.labels();
-    let count: usize = labels.len();
-    let label: Option<&[u8]> = labels.next();
+    let count: usize = name.labels().len();
     assert_eq!(rt; count, 4);
-    assert_eq!(rt; label, Some(b"z".as_slice()));
+    assert_eq!(rt; first_label(MESSAGE)?, Some(b"ra".as_slice()));
     Ok(())
+}
+
+/// Returns the first label of the first name, which its message lends.
+fn first_label<'a>(message: &'a [u8]) -> Result<Option<&'a [u8]>, DecodeError> {
+    let name = NameRef::read(&mut BinDecoder::new(message))?;
+    let mut labels: RefLabels<'a> = name.labels();
+    Ok(labels.next())
 }
 
 /// Returns the name that a text gives.
