@@ -101,8 +101,8 @@ pub mod dnssec {
 /// Writing messages of a bounded size, and what follows from the definitions of writing.
 pub mod encoder {
     pub use dnw_write::encoder::{
-        BinEncoder, CANDIDATE_LIMIT, Mark, ModalEncoder, NAME_LIMIT, NameEncoding, Place, RDataEncoding,
-        laws,
+        BinEncoder, CANDIDATE_LIMIT, Mark, ModalEncoder, NAME_LIMIT, NameEncoding, Place,
+        RDataEncoding, laws,
     };
 }
 
