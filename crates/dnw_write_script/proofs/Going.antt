@@ -1,5 +1,5 @@
 -- How far the writes of a record go.
-use Rattle.std.proofs.Common.{◌≡◌, ℕ, ◌+◌, ◌-◌, ◌≤◌, true, List, length, Ok, Err, inl, inr, refl, ap, ◌∙◌, subst, arith}
+use Rattle.std.proofs.Common.{◌≡◌, ℕ, ◌+◌, ◌-◌, ◌≤◌, true, List, length, Ok, Err, inl, inr, refl, sym, ap, ◌∙◌, subst, arith}
 use Rattle.std.specs.Result.{is_err}
 use Rattle.std.specs.Int.{w16, to_be_bytes}
 use Rattle.dnw_base.specs.Names.{NameValue}

@@ -15,7 +15,7 @@ use Rattle.dnw_write_script.specs.declared.wire_record.WireRecord.{WireRecord}
 use Rattle.dnw_write_script.specs.declared.wire_record.WireData.{WireData}
 use Rattle.dnw_write_script.specs.declared.wire_record.WireData.TheVariants.{Bytes, Name}
 use Rattle.dnw_write_script.specs.Parts.{EmitsSized, EmitsWirePart, EmitsWireParts, HasTextOfSize, Then, WirePart, Write, bytes_part, in_encoding, name_part, parts_size, text_part, wire_size}
-use Rattle.dnw_write_script.specs.WrittenRecords.{EmitsData, EmitsFields, EmitsWhole, NumbersFit, data_part, wire_fixed}
+use Rattle.dnw_write_script.specs.WrittenRecords.{EmitsData, EmitsFields, EmitsWhole, NumbersFit, wire_fixed}
 use Rattle.dnw_write_script.specs.RecordLaws.{FailsForSize, RecordsFit, data_size, record_size}
 
 -- ---- what is accepted

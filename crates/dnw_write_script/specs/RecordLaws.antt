@@ -17,7 +17,7 @@ use Rattle.dnw_write_script.specs.declared.wire_record.WireRecord.{WireRecord}
 use Rattle.dnw_write_script.specs.declared.wire_record.WireData.{WireData}
 use Rattle.dnw_write_script.specs.declared.wire_record.WireData.TheVariants.{Bytes, Name}
 use Rattle.dnw_write_script.specs.Parts.{EmitsCounted, EmitsWirePart, EmitsWireParts, WirePart, Write}
-use Rattle.dnw_record.specs.Records.{RecordAt, RecordValue, data_octets, fixed_at, fixed_size}
+use Rattle.dnw_record.specs.Records.{RecordAt, RecordValue, fixed_at, fixed_size}
 use Rattle.dnw_write_script.specs.WrittenRecords.{EmitsData, EmitsRecord, NumbersFit}
 
 -- A refused record, begun at the buffer's end with every candidate before it, leaves the whole encoder.
