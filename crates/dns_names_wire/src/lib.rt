@@ -188,7 +188,7 @@ pub mod message_writer {
     pub use dnw_message_writer::state::WriterState;
 }
 
-/// Domain names, owned and within a message, and what follows from the definitions of reading them.
+/// Domain names, owned and within a message, types that give a name, and what follows from the definitions of reading names.
 pub mod name {
     pub use dnw_name::name::Name;
     pub use dnw_name::name_ref::NameRef;
@@ -197,6 +197,7 @@ pub mod name {
     pub use dnw_name_read::laws;
     pub use dnw_name_read::ref_labels::RefLabels;
     pub use dnw_name_read::walk::ReadSteps;
+    pub use dnw_name_zones::into_name::IntoName;
 }
 
 /// The texts of names in master files, which `Name::from_text` reads and `Name::to_text` prints: why a text gives no name, and that what is
