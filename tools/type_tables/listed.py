@@ -105,7 +105,10 @@ def types_of(block: str) -> Iterator[Type]:
     """The types of a block of rows."""
     made = None
     for line in block.splitlines():
-        if found := ABOUT.fullmatch(line):
+        found = ABOUT.fullmatch(line)
+        if made and (found or END.fullmatch(line)):
+            fail(TABLE, f"{made.name} has no row")
+        elif found:
             made = Type(-1, found[2], found[3], not found[1])
         elif END.fullmatch(line):
             continue
