@@ -9,7 +9,14 @@ use std::process::ExitCode;
 fn main(rt: HostRuntime) -> ExitCode {
     let is_terminal = rt.stderr().is_terminal();
     let (mut input, mut out, mut errors) = (rt.reader(), io::writer(&rt), rt.stderr());
-    match run(&rt, &mut input, &mut out, &mut errors, rt.stderr(), is_terminal) {
+    match run(
+        &rt,
+        &mut input,
+        &mut out,
+        &mut errors,
+        rt.stderr(),
+        is_terminal,
+    ) {
         Ok(status) => ExitCode::from(status),
         Err(_) => ExitCode::FAILURE,
     }

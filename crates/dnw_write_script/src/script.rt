@@ -1,7 +1,7 @@
 //! Scripts: messages that are written step by step, with a reply to each step.
+use crate::wire_record::WireRecord;
 use dnw_base::error::ProtoError;
 use dnw_name::name::Name;
-use crate::wire_record::WireRecord;
 use dnw_write::encoder::NameEncoding;
 
 mod emit;

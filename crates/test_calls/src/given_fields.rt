@@ -237,14 +237,15 @@ fn wire_record(
 fn bytes_and_names_become_records_and_come_back(rt: HostRuntime) -> Result<(), Fail> {
     let alloc = rt.alloc();
     let address = WireData::Bytes(Vec::from_slice(alloc, b"\x7f\x00\x00\x01")?);
-    let Ok(record) = wire_record(alloc, RecordType::A, address)?.to_record(alloc)
-    else {
+    let Ok(record) = wire_record(alloc, RecordType::A, address)?.to_record(alloc) else {
         return Err(Fail::from("an address"));
     };
     assert!(rt; record.name == Name::from_ascii(alloc, "a.")?);
     assert!(rt; record.dns_class() == DNSClass::NONE);
     assert_eq!(rt; record.ttl, 300);
-    let WireRecord { rdata, .. } = WireRecord::from_record(alloc, &record)?.ok_or("a record of bytes")?;
+    let WireRecord { rdata, .. } = WireRecord::from_record(alloc, &record)?.ok_or(
+        "a record of bytes",
+    )?;
     let WireData::Bytes(bytes) = rdata else {
         return Err(Fail::from("bytes"));
     };
@@ -253,12 +254,13 @@ fn bytes_and_names_become_records_and_come_back(rt: HostRuntime) -> Result<(), F
         name: Name::from_ascii(alloc, "b.a.")?,
         encoding: RDataEncoding::Other,
     };
-    let Ok(record) = wire_record(alloc, RecordType::NS, server)?.to_record(alloc)
-    else {
+    let Ok(record) = wire_record(alloc, RecordType::NS, server)?.to_record(alloc) else {
         return Err(Fail::from("a name"));
     };
     assert!(rt; record.data.octets() == b"\x01b\x01a\x00".as_slice());
-    let WireRecord { rdata, .. } = WireRecord::from_record(alloc, &record)?.ok_or("a record of a name")?;
+    let WireRecord { rdata, .. } = WireRecord::from_record(alloc, &record)?.ok_or(
+        "a record of a name",
+    )?;
     let WireData::Name { name, encoding } = rdata else {
         return Err(Fail::from("a name again"));
     };
@@ -271,13 +273,13 @@ fn bytes_and_names_become_records_and_come_back(rt: HostRuntime) -> Result<(), F
 fn a_name_among_other_fields_is_no_wire_record(rt: HostRuntime) -> Result<(), Fail> {
     let alloc = rt.alloc();
     let mail = WireData::Bytes(Vec::from_slice(alloc, b"\x00\x0a\x01b\x01a\x00")?);
-    let Ok(record) = wire_record(alloc, RecordType::MX, mail)?.to_record(alloc)
-    else {
+    let Ok(record) = wire_record(alloc, RecordType::MX, mail)?.to_record(alloc) else {
         return Err(Fail::from("data of an MX record"));
     };
     assert!(rt; WireRecord::from_record(alloc, &record)?.is_none());
     let short = WireData::Bytes(Vec::from_slice(alloc, b"\x00")?);
-    let Err(RDataError::Field(error)) = wire_record(alloc, RecordType::A, short)?.to_record(alloc) else {
+    let Err(RDataError::Field(error)) = wire_record(alloc, RecordType::A, short)?.to_record(alloc)
+    else {
         return Err(Fail::from("an octet is no address"));
     };
     assert_eq!(rt; error.field, 0);

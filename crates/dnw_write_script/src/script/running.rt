@@ -14,8 +14,8 @@ ghost use Rattle.dnw_write_script.specs.Runs.{Runs, RunsStep, RunsItems, GivesRe
 ghost use Rattle.dnw_write_script.specs.Inside.Running.{FillsKept, HoldsPlace, KeepsPlace, RunsTo, Tracks, reply_to};
 
 use super::{Item, Reply, Step};
-use dnw_base::error::ProtoResult;
 use crate::wire_record::WireRecord;
+use dnw_base::error::ProtoResult;
 use dnw_write::binary::BinEncodable;
 use dnw_write::encoder::{BinEncoder, CANDIDATE_LIMIT, NAME_LIMIT, NameEncoding, Place};
 use std::alloc::Global;
