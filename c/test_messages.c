@@ -87,7 +87,7 @@ static void reads_edns(void)
     struct dnw_edns edns = {.version = 7, .options_len = 7};
     EXPECT(dnw_edns_read(BYTES(referral), 3, &edns) == DNW_DONE);
     EXPECT(edns.is_present && edns.dnssec_ok && edns.version == 0 && edns.max_payload == 1232);
-    EXPECT(edns.response_code == 23 && edns.options_offset == 77 && edns.options_len == 6);
+    EXPECT(edns.response_code == 23 && edns.options_offset == 77 && edns.options_len == 6 && edns.takes_records);
     EXPECT(dnw_edns_read(BYTES(ONE_MORE("\001") EMPTY_OPT("\000")), 0, &edns) == DNW_DONE);
     EXPECT(edns.is_present && !edns.dnssec_ok && edns.max_payload == 512 && edns.response_code == 3);
     EXPECT(edns.options_offset == 23 && edns.options_len == 0);
@@ -401,6 +401,19 @@ static void packs_messages(void)
     static const char both[] = SIGNED("\200", "\003") SIG_OF("\000\000") SIG_OF("\000\001") A_OF_A;
     EXPECT(packs(BYTES(both), 512, WANTED(SIGNED("\200", "\003") SIG_OF("\000\001") A_OF_A SIG_OF("\000\000")), false));
     EXPECT(packs(BYTES(both), 43, WANTED(SIGNED("\200", "\001") SIG_OF("\000\000")), false));
+    /* octets are held back for a SIG(0) as many as it is written with: its signer whole, also if it stands as a pointer */
+#define SIGNED_BY(signer, size) "\000\000\030\000\377\000\000\000\000" size "\000\000\010\000\000\000\000\000\000\000\000\002\000\000\000\001\000\007" signer "s"
+#define ANSWERED(counts) "\000\000" counts WWW_IN
+#define WWW_ADDRESS "\300\014\000\001\000\001" TTL "\000\004abcd"
+    static const char by_pointer[] = ANSWERED("\200\000\000\001\000\001\000\000\000\001") WWW_ADDRESS SIGNED_BY("\300\014", "\000\025");
+    static const char by_name[] = ANSWERED("\200\000\000\001\000\001\000\000\000\001") WWW_ADDRESS SIGNED_BY(WWW, "\000\044");
+    static const char by_name_alone[] = ANSWERED("\202\000\000\001\000\000\000\000\000\001") SIGNED_BY(WWW, "\000\044");
+    const uint16_t signed_len = sizeof by_name - 1, alone_len = sizeof by_name_alone - 1;
+    for (uint16_t most = 0; most < alone_len; most++)
+        EXPECT(pack(BYTES(by_pointer), most, sizeof copy, &packed) == DNW_MESSAGE_TOO_LONG);
+    for (uint16_t most = alone_len; most < signed_len; most++)
+        EXPECT(packs(BYTES(by_pointer), most, WANTED(by_name_alone), true));
+    EXPECT(packs(BYTES(by_pointer), signed_len, WANTED(by_name), false));
     /* names that are whole in the message are compressed in the copy, and those of an SRV are not */
     EXPECT(packs(BYTES("\000\000\200\000\000\001\000\002\000\000\000\000\001a\000\000\001\000\001"
                        "\001a\000\000\005\000\001" TTL "\000\005\001b\001a\000"

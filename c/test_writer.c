@@ -355,6 +355,7 @@ static void begins_replies(void)
     EXPECT(reply(BYTES(ASKS("\001\020", "\000\001\000\000\000\000\000\000") QUESTION), ROOM, flags, &edns) == DNW_DONE);
     expect_message(BYTES(ASKS("\205\223", "\000\001\000\000\000\000\000\000") QUESTION));
     EXPECT(!edns.is_present && !edns.dnssec_ok && edns.max_payload == 512 && edns.response_code == 3 && writer.reserved == 0);
+    EXPECT(edns.takes_records && edns.version == 0 && edns.options_offset == 0 && edns.options_len == 0);
     EXPECT(reply(BYTES(ASKS("\050\000", "\000\001\000\000\000\000\000\001") QUESTION SAYS("\000", "\200")), ROOM, 0, &edns) == DNW_DONE);
     expect_message(BYTES(ASKS("\250\000", "\000\001\000\000\000\000\000\000") QUESTION));
     EXPECT(edns.is_present && edns.dnssec_ok && edns.max_payload == 1232 && edns.response_code == 0 && writer.reserved == 11);
@@ -401,13 +402,14 @@ static void takes_codes(void)
         if (code < 4096) {
             const uint32_t expected = code == 1 || code == 4 || code == 16 ? DNW_BAD_ITEM : DNW_DONE;
             EXPECT(address(ROOM, DNW_SECTION_ANSWERS, BYTES(ROOT)) == expected);
+            EXPECT(edns.takes_records == (expected == DNW_DONE));
             EXPECT(question(ROOM, BYTES(ROOT)) == DNW_BAD_ITEM);
             EXPECT(address(ROOM, DNW_SECTION_ADDITIONALS, BYTES(ROOT)) == DNW_DONE);
         }
     }
     /* a request that has to get another code gets it, whatever the server's */
     EXPECT(reply_code(BYTES(ASKS("\001\000", "\000\002\000\000\000\000\000\000") QUESTION QUESTION), 5000, &edns) == DNW_DONE);
-    EXPECT(edns.response_code == 1);
+    EXPECT(edns.response_code == 1 && !edns.takes_records);
 }
 
 /* Records of a list are added as far as there is room, and the call says where to go on. */
@@ -537,7 +539,7 @@ static uint32_t list(const uint8_t *items, size_t items_len, size_t max_size, si
 {
     memset(message, 0x5A, ROOM);
     result = (struct dnw_packed){7, true};
-    uint32_t answer = dnw_message_write(items, items_len, max_size, 0x1234, 0x85B3, message, size, &result);
+    uint32_t answer = dnw_message_write(items, items_len, max_size, 0x1234, 0x85B3, 0, message, size, &result);
     if (answer != DNW_DONE)
         EXPECT(result.len == 7 && result.truncated);
     return answer;
@@ -688,6 +690,78 @@ static void knows_what_is_required(void)
     for (size_t i = 0; i < sizeof glue / sizeof *glue; i++)
         EXPECT(list(glue[i].items, glue[i].len, 46, ROOM) == DNW_DONE && result.len == 46 && result.truncated == glue[i].truncated);
     EXPECT(list(BYTES(ASKED_A COM_NS("\002") RR("\003", WEB)), 62, ROOM) == DNW_DONE && result.len == 62 && !result.truncated);
+    /* data that lead below a cut are no answer, so the message refers to the cut; those of its zone are one */
+#define LEADS(owner) "\000" WWW "\000\047\000\001" "\001\007example\003com\000" FIELDS("\047") "\000\005\003net\000" \
+    "\002" owner FIELDS("\002") "\000\001\000" RR("\003", "\002ns" owner)
+    EXPECT(list(BYTES(LEADS("\003net\000")), ROOM, ROOM) == DNW_DONE && !result.truncated);
+    size_t len = result.len;
+    for (size_t most = 33; most < len; most++)
+        EXPECT(list(BYTES(LEADS("\003net\000")), most, ROOM) == DNW_DONE && result.truncated);
+    for (size_t most = 50; most < len; most++)
+        EXPECT(list(BYTES(LEADS("\003com\000")), most, ROOM) == DNW_DONE && !result.truncated && message[7] == 1);
+}
+
+/* If a part of a set is there and a part is left out, TC is set, wherever its records stand (RFC 2181, section 9), and whatever the
+   caller says. A signature is never there without its set (RFC 4035, section 3.1.1). */
+static void keeps_no_half_of_a_set(void)
+{
+#define AAAA_RR(octet, owner) octet owner FIELDS("\034") "\000\020\0\0\0\0\0\0\0\0\0\0\0\0\0\0\0\1"
+#define APART(octet) ASKED_A RR(octet, WEB) AAAA_RR(octet, WEB) octet UPPER_WEB FIELDS("\001") "\000\004\300\000\002\002"
+#define TWICE ASKED_A RR("\003", WEB) AAAA_RR("\003", WEB) RR("\003", UPPER_WEB)
+#define SIGNED_LATER ASKED_A RRSIG_RR("\003", WEB, "\001") AAAA_RR("\003", WEB) RR("\003", WEB)
+#define SIGNED_FIRST ASKED_A RR("\003", WEB) AAAA_RR("\003", WEB) RRSIG_RR("\003", WEB, "\001")
+#define SIGNED_TWICE ASKED_A RRSIG_RR("\003", WEB, "\034") RR("\003", WEB) RRSIG_RR("\003", UPPER_WEB, "\034")
+    static const struct {
+        const uint8_t *items;
+        size_t len;
+        /* whether so many additional records are a part of a set */
+        bool is_half[4];
+    } cases[] = {
+        {BYTES(APART("\003")), {false, true, true, false}},
+        {BYTES(APART("\203")), {false, true, true, false}},
+        {BYTES(SIGNED_LATER), {false, true, true, false}},
+        /* what is left out is there already */
+        {BYTES(TWICE), {false, false, false, false}},
+        {BYTES(SIGNED_FIRST), {false, false, false, false}},
+        {BYTES(SIGNED_TWICE), {false, false, false, false}},
+    };
+    for (size_t i = 0; i < sizeof cases / sizeof *cases; i++) {
+        EXPECT(list(cases[i].items, cases[i].len, ROOM, ROOM) == DNW_DONE && !result.truncated && message[11] == 3);
+        size_t len = result.len;
+        for (size_t most = 49; most < len; most++)
+            EXPECT(list(cases[i].items, cases[i].len, most, ROOM) == DNW_DONE && result.truncated == cases[i].is_half[message[11]]);
+    }
+    /* 4096 pairs of records are compared, and no more */
+    static uint8_t items[4096], room[49 + 64 * 18];
+    size_t len = sizeof ASKED_A - 1;
+    memcpy(items, ASKED_A, len);
+    for (unsigned i = 0; i < 129; i++, len += 5 + sizeof ADDRESS - 1) {
+        const uint8_t owner[] = {3, 2, (uint8_t)i, 'x', 0};
+        memcpy(items + len, owner, 5);
+        memcpy(items + len + 5, ADDRESS, sizeof ADDRESS - 1);
+    }
+    for (size_t last = 0; last < 2; last++) {
+        EXPECT(dnw_message_write(items, len - (1 - last) * (5 + sizeof ADDRESS - 1), ROOM * 4, 1, 0x8000, 0, room, sizeof room, &result) == DNW_DONE);
+        EXPECT(room[11] == 64 && result.truncated == (last == 1));
+    }
+}
+
+/* A set that is taken back leaves nothing, so the message is as dnw_message_pack writes it: the names after the set stand as if it had
+   not been tried. */
+static void takes_sets_back(void)
+{
+#define TAKEN ASKED_A SIGNED_COM RR("\003", "\001x\003com\000") RR("\003", "\001y\003com\000")
+#define SIGNED_COM COM_NS("\002") RRSIG_RR("\002", "\003com\000", "\002")
+    uint8_t whole[ROOM], again[ROOM];
+    EXPECT(list(BYTES(TAKEN), ROOM, ROOM) == DNW_DONE && !result.truncated);
+    size_t len = result.len;
+    memcpy(whole, message, len);
+    for (size_t most = 49; most <= len; most++) {
+        struct dnw_packed packed;
+        EXPECT(dnw_message_pack(whole, len, (uint16_t)most, again, sizeof again, &packed) == DNW_DONE);
+        EXPECT(list(BYTES(TAKEN), most, ROOM) == DNW_DONE);
+        EXPECT(packed.len == result.len && packed.truncated == result.truncated && memcmp(again, message, packed.len) == 0);
+    }
 }
 
 /* A request is never cut, whatever its operation (RFC 2136, section 3.4.2), nor is a transfer (RFC 5936, section 2.2; RFC 1995, section 4).
@@ -701,11 +775,11 @@ static void never_cuts_requests(void)
                 uint8_t items[] = ASKED RR("\001", WWW);
                 items[sizeof ASKED - 1] = (uint8_t)octet;
                 struct dnw_packed found = {7, true};
-                EXPECT(dnw_message_write(items, sizeof items - 1, most, 1, flags[i], message, ROOM, &found) == DNW_MESSAGE_TOO_LONG);
+                EXPECT(dnw_message_write(items, sizeof items - 1, most, 1, flags[i], 0, message, ROOM, &found) == DNW_MESSAGE_TOO_LONG);
                 EXPECT(found.len == 7 && found.truncated);
             }
         if (flags[i] & 0x7800) {
-            EXPECT(dnw_message_write(BYTES(ASKED RR("\003", ROOT)), 33, 1, flags[i] | 0x8000, message, ROOM, &result) == DNW_DONE);
+            EXPECT(dnw_message_write(BYTES(ASKED RR("\003", ROOT)), 33, 1, flags[i] | 0x8000, 0, message, ROOM, &result) == DNW_DONE);
             EXPECT(result.len == 33 && result.truncated);
         }
     }
@@ -716,6 +790,31 @@ static void never_cuts_requests(void)
         EXPECT(list(TRANSFER("\001"), most, ROOM) == (most < 17 ? DNW_MESSAGE_TOO_LONG : DNW_DONE));
     }
     EXPECT(list(TRANSFER("\374"), 47, ROOM) == DNW_DONE && result.len == 47 && !result.truncated);
+}
+
+/* A list with an OPT record is padded to a multiple of a block, with the signature after it; and not without room. */
+static void pads_lists(void)
+{
+#define DNW_PADS(items, block, most) dnw_message_write(BYTES(items), most, 1, 0x8000, block, message, ROOM, &result)
+#define KEYED ASKED_A OPT_RR "\103" WWW "\377\000\000\377\000\000\000\000\000\002\001\002"
+    static const uint16_t blocks[] = {0, 1, 32, 128, 468, 512, 600};
+    for (size_t i = 0; i < sizeof blocks / sizeof *blocks; i++) {
+        size_t block = blocks[i] > 512 ? 512 : blocks[i];
+        EXPECT(DNW_PADS(ASKED_A OPT_RR, blocks[i], ROOM) == DNW_DONE && !result.truncated);
+        EXPECT(block == 0 ? result.len == 49 + 11 : result.len % block == 0 && result.len >= 49 + 15);
+        EXPECT(DNW_PADS(KEYED, blocks[i], ROOM) == DNW_DONE && !result.truncated);
+        EXPECT(block == 0 ? result.len == 49 + 11 + 29 : result.len % block == 0 && result.len >= 49 + 15 + 29);
+        EXPECT(memcmp(message + result.len - 29, WWW "\377\000", 19) == 0);
+        /* no option without room for it, and none without OPT */
+        EXPECT(DNW_PADS(KEYED, blocks[i], 49 + 11 + 29) == DNW_DONE && result.len == 49 + 11 + 29 && !result.truncated);
+        EXPECT(DNW_PADS(ASKED_A, blocks[i], ROOM) == DNW_DONE && result.len == 49);
+    }
+    EXPECT(DNW_PADS(ASKED_A OPT_RR, 64, ROOM) == DNW_DONE && result.len == 64);
+    EXPECT(memcmp(message + 49, "\000\000\051\004\320\000\000\000\000\000\004\000\014\000\000", 15) == 0);
+    /* the bits of the OPT record are kept, and options that are cut fail */
+#define SAYING "\103\000\000\051\002\000\001\002\200\000\000\000"
+    EXPECT(DNW_PADS(SAYING, 1, ROOM) == DNW_DONE && memcmp(message + 12, "\000\000\051\002\000\001\002\200\000\000\004\000\014\000\000", 15) == 0);
+    EXPECT(DNW_PADS("\103\000\000\051\002\000\000\000\000\000\000\001\007", 1, ROOM) == DNW_CUT_OPTION);
 }
 
 static void refuses_lists(void)
@@ -765,7 +864,10 @@ int main(void)
     leaves_sets_out();
     takes_sets_without_case();
     knows_what_is_required();
+    keeps_no_half_of_a_set();
+    takes_sets_back();
     never_cuts_requests();
+    pads_lists();
     refuses_lists();
     return 0;
 }

@@ -25,7 +25,6 @@ WITHOUT_MODEL = {
     "dnw_option_print": "fuzz/options.py",
     "dnw_option_read": "fuzz/options.py",
     "dnw_option_write": "fuzz/options.py",
-    "dnw_writer_edns": "c/test_writer.c",
     "dnw_writer_fill": "c/test_writer.c",
     "dnw_writer_query": "c/test_writer.c",
     "dnw_writer_reply": "c/test_writer.c",

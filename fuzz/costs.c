@@ -132,7 +132,7 @@ static uint32_t zone_next(void)
     }
     return failure;
 }
-static uint32_t message_write(void) { return dnw_message_write(IN, 65535, 0, 0, OUT, &packed); }
+static uint32_t message_write(void) { return dnw_message_write(IN, 65535, 0, 0, 0, OUT, &packed); }
 static uint32_t name_print(void) { return dnw_name_print(IN, true, OUT, &len); }
 static uint32_t name_compare(void) { return dnw_name_compare(IN, IN, &order); }
 static uint32_t name_equal(void) { return dnw_name_equal(IN, IN, &is_it); }

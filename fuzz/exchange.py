@@ -373,7 +373,7 @@ def written_again(wire, read):
     last.sort(key=lambda item: item[1] != 0)  # OPT, and then TSIG
     listed, room, written = b"".join(items + last), ctypes.create_string_buffer(65535), Pair()
     answer = OURS.dnw_message_write(listed, ctypes.c_size_t(len(listed)), ctypes.c_size_t(65535), ctypes.c_uint16(number),
-                                    ctypes.c_uint16(flags), room, ctypes.c_size_t(len(room)), ctypes.byref(written))
+                                    ctypes.c_uint16(flags), ctypes.c_uint16(0), room, ctypes.c_size_t(len(room)), ctypes.byref(written))
     check(answer == 0 and written.other & 255 == flags >> 9 & 1, "not written", answer, wire.hex())
     return room.raw[: written.len]
 

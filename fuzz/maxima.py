@@ -92,7 +92,7 @@ def write(items, maximum):
     """The message of a list, or None if the maximum has no room for what is never left out."""
     room, result = ctypes.create_string_buffer(65535), Packed()
     size = ctypes.c_size_t
-    failure = OURS.dnw_message_write(items, size(len(items)), size(maximum), 0x1234, RESPONSE, room, size(len(room)), ctypes.byref(result))
+    failure = OURS.dnw_message_write(items, size(len(items)), size(maximum), 0x1234, RESPONSE, 0, room, size(len(room)), ctypes.byref(result))
     return None if failure else room.raw[: result.len]
 
 

@@ -505,8 +505,10 @@ struct model_purpose model_purpose(uint16_t flags)
 
 void model_take(struct model_purpose *purpose, int section, const struct model_name *owner, uint16_t type)
 {
-    if (section == 1)
-        purpose->has_data |= purpose->asked == type || purpose->asked == DNW_TYPE_ANY;
+    if (section == 1 && (purpose->asked == type || purpose->asked == DNW_TYPE_ANY)) {
+        purpose->has_found = true;
+        purpose->found = *owner;
+    }
     if (section == 2 && !purpose->has_cut && type == DNW_TYPE_NS) {
         purpose->has_cut = true;
         purpose->cut = *owner;
@@ -523,11 +525,42 @@ bool model_is_required(struct model_purpose *purpose, int section, const struct 
 {
     if ((purpose->flags & 0x7800) != 0 || section == 1)
         return true;
+    bool is_answered = purpose->has_found && purpose->has_cut && model_in_zone(&purpose->found, &purpose->cut);
     if (section == 3)
-        return !purpose->has_data && (type == DNW_TYPE_A || type == DNW_TYPE_AAAA) && purpose->has_cut &&
-               model_in_zone(owner, &purpose->cut);
+        return !is_answered && (type == DNW_TYPE_A || type == DNW_TYPE_AAAA) && purpose->has_cut && model_in_zone(owner, &purpose->cut);
     bool signs_ns = type == DNW_TYPE_RRSIG && data_len >= 2 && model_number(data, 2) == DNW_TYPE_NS;
     bool is_extra = type == DNW_TYPE_NS || (signs_ns && purpose->server_out);
     purpose->server_out |= type == DNW_TYPE_NS;
-    return !purpose->has_data || !is_extra;
+    return !is_answered || !is_extra;
+}
+
+/* The type that an RRSIG covers, or 65536 for another record. */
+static uint32_t covered(const struct model_member *x)
+{
+    return x->type == DNW_TYPE_RRSIG && x->len >= 2 ? (uint32_t)model_number(x->data, 2) : 65536;
+}
+
+static bool are_beside(const struct model_member *x, const struct model_member *y)
+{
+    struct model_name low = x->owner, other = y->owner;
+    model_lower(&low);
+    model_lower(&other);
+    return x->class == y->class && low.len == other.len && memcmp(low.form, other.form, low.len) == 0;
+}
+
+bool model_halves(const struct model_member *there, const struct model_member *left)
+{
+    uint32_t signs = covered(there);
+    return covered(left) == 65536 && (signs < 65536 ? signs : there->type) == left->type && are_beside(there, left);
+}
+
+bool model_are_the_same(const struct model_member *x, const struct model_member *y)
+{
+    return x->type == y->type && are_beside(x, y) && x->len == y->len && memcmp(x->data, y->data, x->len) == 0;
+}
+
+bool model_are_of_one_set(const struct model_member *first, const struct model_member *other)
+{
+    bool goes_with = first->type == DNW_TYPE_NS && covered(other) == DNW_TYPE_NS;
+    return (first->type == other->type || goes_with) && are_beside(first, other);
 }

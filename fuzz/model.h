@@ -101,12 +101,12 @@ bool model_in_zone(const struct model_name *name, const struct model_name *zone)
 void model_lower(struct model_name *name);
 
 /* What of a message decides which of its records are required: its flags, the type that its first question asks for (UINT32_MAX if it
-   has none), whether an answer has that type, and the owner of the first NS of the Authority section. */
+   has none), the owner of the last answer of that type, and the owner of the first NS of the Authority section. */
 struct model_purpose {
     uint16_t flags;
     uint32_t asked;
-    bool has_data, has_cut;
-    struct model_name cut;
+    bool has_found, has_cut;
+    struct model_name found, cut;
     /* a server of the section is left out */
     bool server_out;
 };
@@ -122,6 +122,26 @@ bool model_is_uncut(const struct model_purpose *purpose);
 /* A response has to have the record, which is left out (RFC 2181, section 9; RFC 2308; RFC 4035, section 3.1; RFC 9471). */
 bool model_is_required(struct model_purpose *purpose, int section, const struct model_name *owner, uint16_t type,
                        const uint8_t *data, size_t data_len);
+
+/* A record as one of a set: its owner, type, class and data. */
+struct model_member {
+    struct model_name owner;
+    uint16_t type, class;
+    const uint8_t *data;
+    size_t len;
+};
+
+/* How many pairs of records are compared at most, to see if half of a set is there. */
+#define MODEL_PAIRS 4096
+
+/* Half of a set is there, if the first record is and the other is left out: the other is of its set, or of that which it signs. */
+bool model_halves(const struct model_member *there, const struct model_member *left);
+
+/* Both are the same record. */
+bool model_are_the_same(const struct model_member *x, const struct model_member *y);
+
+/* Both are of one set, which is written whole or not at all if they follow each other: the signatures of NS are of its set. */
+bool model_are_of_one_set(const struct model_member *first, const struct model_member *other);
 
 /* Puts the data of a record at `*at` of a buffer, with names whole, and lowered or not, and moves `*at` past them. Returns why they
    are none of their type. */

@@ -1,6 +1,7 @@
 /* Writes whole messages again, in at most as many octets as the first two of an input say, and compares the copy, octet for octet, with
    one that is written item by item: of each section the sets, of which one that has no room is left out with all after it; and then the
-   records that come last. TC is set if a record is left out that is required, and nothing is left out of a message that is never cut.
+   records that come last. TC is set if a record is left out that is required, or half of a set, and nothing is left out of a message
+   that is never cut.
    What the calls for items write is compared in writer.c. */
 #include "harness.h"
 
@@ -16,13 +17,16 @@ static bool is_held(const uint8_t *message, const struct dnw_record *record)
     return record->record_type == DNW_TYPE_OPT || record->record_type == DNW_TYPE_TSIG;
 }
 
-static bool are_of_one_set(const struct model_name *a, const struct dnw_record *x, const struct model_name *b, const struct dnw_record *y)
+static struct model_member member(const uint8_t *message, const struct model_name *owner, const struct dnw_record *record)
 {
-    struct model_name low = *a, other = *b;
-    model_lower(&low);
-    model_lower(&other);
-    return x->record_type == y->record_type && x->record_class == y->record_class && low.len == other.len &&
-           memcmp(low.form, other.form, low.len) == 0;
+    return (struct model_member){*owner, record->record_type, record->record_class, message + record->data_offset, record->data_len};
+}
+
+static bool are_of_one_set(const uint8_t *message, const struct model_name *a, const struct dnw_record *x, const struct model_name *b,
+                           const struct dnw_record *y)
+{
+    struct model_member first = member(message, a, x), other = member(message, b, y);
+    return model_are_of_one_set(&first, &other);
 }
 
 /* Adds a record to a section. */
@@ -51,7 +55,7 @@ static uint32_t add_sets(const uint8_t *message, size_t len, int section, size_t
         CHECK(model_record(message, len, at, &owner, &record) == DNW_DONE);
         if (section == 3 && is_held(message, &record))
             continue;
-        if (!has_first || !are_of_one_set(&first_owner, &first, &owner, &record)) {
+        if (!has_first || !are_of_one_set(message, &first_owner, &first, &owner, &record)) {
             first_owner = owner, first = record, has_first = true, before = *w;
             memcpy(counted, wanted + 4 + 2 * section, 2);
         }
@@ -104,6 +108,32 @@ static bool misses(const uint8_t *message, size_t len, int section, size_t at, s
     return false;
 }
 
+/* Half of a set is in the copy, and another half is left out; or too many pairs of records would have to be compared. */
+static bool has_half(const uint8_t *message, size_t len, int section, size_t at)
+{
+    static struct model_member members[6000];
+    uint32_t copied = (uint32_t)model_number(wanted + 4 + 2 * section, 2), count = 0;
+    struct model_name owner;
+    struct dnw_record record;
+    for (uint32_t left = (uint32_t)model_number(message + 4 + 2 * section, 2); left > 0; left--, at = record.end) {
+        CHECK(model_record(message, len, at, &owner, &record) == DNW_DONE);
+        if (section < 3 || !is_held(message, &record))
+            members[count++] = member(message, &owner, &record);
+    }
+    for (uint32_t left = copied; left < count; left++) {
+        if ((left - copied + 1) * copied > MODEL_PAIRS)
+            return true;
+        bool is_half = false, is_there = false;
+        for (uint32_t there = 0; there < copied; there++) {
+            is_half |= model_halves(&members[there], &members[left]);
+            is_there |= model_are_the_same(&members[there], &members[left]);
+        }
+        if (is_half && !is_there)
+            return true;
+    }
+    return false;
+}
+
 static uint32_t write_copy(const uint8_t *message, size_t len, size_t most, const struct dnw_message *read, struct dnw_packed *copy)
 {
     static struct dnw_writer w;
@@ -115,8 +145,13 @@ static uint32_t write_copy(const uint8_t *message, size_t len, size_t most, cons
     size_t at = read->additionals;
     for (size_t i = 0; i < read->additional_count; i++, at = record.end) {
         CHECK(model_record(message, len, at, &name, &record) == DNW_DONE);
-        if (is_held(message, &record))
-            CHECK(dnw_writer_hold(name.len + 10 + record.data_len, &w) == DNW_DONE);
+        if (is_held(message, &record)) {
+            /* as many as it is written with, names in its data whole */
+            size_t whole = 0;
+            if (model_put_data(message, &record, false, whole_data, &whole) != DNW_DONE)
+                whole = record.data_len;
+            CHECK(dnw_writer_hold(name.len + 10 + whole, &w) == DNW_DONE);
+        }
     }
     at = DNW_HEADER_SIZE;
     for (size_t i = 0; i < read->question_count; i++, at = name.end + 4) {
@@ -139,7 +174,7 @@ static uint32_t write_copy(const uint8_t *message, size_t len, size_t most, cons
         if (model_is_uncut(&purpose))
             return DNW_MESSAGE_TOO_LONG;
         for (int section = 1; section < 4; section++)
-            is_cut |= misses(message, len, section, starts[section], &purpose);
+            is_cut |= misses(message, len, section, starts[section], &purpose) || has_half(message, len, section, starts[section]);
     }
     /* no name of the message is known to what comes last */
     CHECK(dnw_writer_release(SIZE_MAX, &w) == DNW_DONE);

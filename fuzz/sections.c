@@ -140,6 +140,7 @@ static void reads_edns(const uint8_t *message, size_t len, size_t most, const st
     CHECK(edns.is_present == wanted.is_present && edns.dnssec_ok == wanted.dnssec_ok && edns.version == wanted.version);
     CHECK(edns.max_payload == wanted.max_payload && edns.response_code == wanted.response_code);
     CHECK(edns.options_offset == wanted.options_offset && edns.options_len == wanted.options_len);
+    CHECK(edns.takes_records == (edns.response_code != 1 && edns.response_code != 4 && edns.response_code != 16));
 }
 
 static void reads_fields(const uint8_t *message, size_t end, uint16_t class, uint16_t type, size_t offset)

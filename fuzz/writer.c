@@ -426,11 +426,32 @@ static uint16_t code_of(const uint8_t *list, const struct listed *item, size_t a
     return (uint16_t)model_number(list + item->fields + at, 2);
 }
 
-/* Records with the same octet, owner but for case, type and class. */
+static struct model_member member(const uint8_t *list, const struct listed *item)
+{
+    return (struct model_member){item->name, code_of(list, item, 0), code_of(list, item, 2), item->data.bytes, item->data.len};
+}
+
+/* Records with the same octet, and of one set. */
 static bool are_of_one_set(const uint8_t *list, const struct listed *item, const struct listed *other)
 {
-    return item->octet == other->octet && code_of(list, item, 0) == code_of(list, other, 0) &&
-           code_of(list, item, 2) == code_of(list, other, 2) && model_compare(&item->name, &other->name) == 0;
+    struct model_member first = member(list, item), next = member(list, other);
+    return item->octet == other->octet && model_are_of_one_set(&first, &next);
+}
+
+/* One of so many records, from an offset on, and a record that is left out are half of a set each, and none is the same. */
+static bool is_half(const uint8_t *list, size_t len, size_t at, unsigned count, const struct listed *item)
+{
+    struct listed there;
+    struct model_member out = member(list, item);
+    bool is_half = false;
+    for (; count > 0; count--, at = there.end) {
+        CHECK(read_listed(list, len, at, &there));
+        struct model_member own = member(list, &there);
+        if (model_are_the_same(&own, &out))
+            return false;
+        is_half |= model_halves(&own, &out);
+    }
+    return is_half;
 }
 
 /* A record that is left out has to be there, by the word of the list, or else by what the message is for. */
@@ -441,7 +462,7 @@ static bool is_missed(const uint8_t *list, const struct listed *item, struct mod
 }
 
 /* Writes a list by the calls for its items, and puts whether something required is missing. */
-static uint32_t model_list(const uint8_t *list, size_t len, size_t max_size, uint16_t flags, uint8_t *message, size_t size,
+static uint32_t model_list(const uint8_t *list, size_t len, size_t max_size, uint16_t flags, uint16_t block, uint8_t *message, size_t size,
                            struct dnw_writer *w, bool *missing)
 {
     struct model_purpose purpose = model_purpose(flags);
@@ -464,15 +485,29 @@ static uint32_t model_list(const uint8_t *list, size_t len, size_t max_size, uin
     if (begun != DNW_DONE)
         return begun;
     dnw_writer_hold(held, w);
-    unsigned closed = 0;
+    unsigned closed = 0, opened = 0, out = 0;
+    size_t start = 0;
     for (size_t at = 0; at < len;) {
         CHECK(read_listed(list, len, at, &item));
         unsigned section = item.octet % 4;
         uint32_t answer;
+        if (item.octet != 0 && item.octet != 67 && section != opened) {
+            opened = section;
+            start = at;
+            out = 0;
+        }
+        unsigned there = item.octet == 67 ? 0 : (unsigned)model_number(message + 4 + 2 * section, 2);
         if (item.octet == 0) {
             const uint8_t *fields = list + item.fields;
             answer = dnw_writer_question(message, size, item.name.form, item.name.len, (uint16_t)model_number(fields, 2),
                                          (uint16_t)model_number(fields + 2, 2), w);
+            if (answer != DNW_DONE)
+                return answer;
+            at = item.end;
+        } else if (item.octet == 67 && block > 0 && code_of(list, &item, 0) == DNW_TYPE_OPT && item.name.len == 1) {
+            const uint8_t *fields = list + item.fields;
+            answer = dnw_writer_edns(message, size, 11 + item.data.len, code_of(list, &item, 2), fields[4], fields[5], fields[6] >= 128,
+                                     item.data.bytes, item.data.len, block, w);
             if (answer != DNW_DONE)
                 return answer;
             at = item.end;
@@ -486,23 +521,22 @@ static uint32_t model_list(const uint8_t *list, size_t len, size_t max_size, uin
                 return answer;
             at = item.end;
         } else if (section == closed) {
-            *missing = *missing || is_missed(list, &item, &purpose);
+            *missing |= is_missed(list, &item, &purpose);
+            *missing |= ++out * there > MODEL_PAIRS || is_half(list, len, start, there, &item);
             at = item.end;
         } else {
-            size_t end = w->len;
-            uint16_t owner = w->owner;
-            uint8_t rank = w->rank, counts[8];
+            struct dnw_writer before = *w;
+            uint8_t counts[8];
             memcpy(counts, message + 4, 8);
             for (next = item; are_of_one_set(list, &item, &next);) {
                 answer = add_listed(list, &next, section + 1, message, size, w);
                 if (answer == DNW_MESSAGE_TOO_LONG && !model_is_uncut(&purpose)) {
-                    w->len = end;
-                    w->owner = owner;
-                    w->rank = rank;
+                    *w = before;
                     memcpy(message + 4, counts, 8);
                     closed = section;
                     purpose.server_out = false;
-                    *missing = *missing || is_missed(list, &item, &purpose);
+                    *missing |= is_missed(list, &item, &purpose);
+                    *missing |= ++out * there > MODEL_PAIRS || is_half(list, len, start, there, &item);
                     at = item.end;
                     break;
                 }
@@ -528,9 +562,10 @@ static void writes_list(const uint8_t *list, size_t len, size_t max_size, size_t
     /* responses to queries, requests, and responses to updates */
     static const uint16_t kinds[] = {0x8002, 0x8002, 2, 0xA802};
     uint16_t flags = kinds[max_size % 4];
-    uint32_t wanted = model_list(list, len, max_size, flags, own, size, &w, &missing);
+    uint16_t block = max_size % 3 == 0 ? (uint16_t)(max_size % 130) : 0;
+    uint32_t wanted = model_list(list, len, max_size, flags, block, own, size, &w, &missing);
     uint8_t *message = clear(&lists, size);
-    uint32_t answer = dnw_message_write(list, len, max_size, 1, flags, message, size, &written);
+    uint32_t answer = dnw_message_write(list, len, max_size, 1, flags, block, message, size, &written);
     CHECK(answer == wanted);
     if (answer != DNW_DONE) {
         CHECK(written.len == 7 && !written.truncated);

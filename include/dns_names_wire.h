@@ -255,11 +255,13 @@ uint32_t dnw_is_reply_to(const uint8_t *request, size_t request_len, const uint8
 
 /* The EDNS fields of a message (RFC 6891, section 6.1). The `options_len` octets at offset `options_offset` of the
    message are options, each two octets of code, two of length, and as many octets as that. Without an OPT record,
-   `is_present` is false, `max_payload` is 512, and all others except the response code are 0. */
+   `is_present` is false, `max_payload` is 512, and all others except `takes_records` and the response code are 0. */
 struct dnw_edns {
     bool is_present;
     bool dnssec_ok;         /* DO: the sender accepts DNSSEC records (RFC 3225, section 3) */
     uint8_t version;
+    bool takes_records;     /* the response code is none of FORMERR, NOTIMP and BADVERS: a reply with these has no records
+                               but OPT, and TSIG or SIG(0) (RFC 1035, section 4.1.1; RFC 6891, section 6.1.3) */
     uint16_t max_payload;   /* the size of the largest message that the sender accepts, at least 512 octets */
     uint16_t response_code; /* that of the header, with the high bits from the OPT record */
     size_t options_offset;
@@ -918,7 +920,7 @@ uint32_t dnw_writer_begin(uint8_t *message, size_t message_size, size_t max_size
    `writer->max_size` to `edns->max_payload`.
 
    A reply with FORMERR, NOTIMP (4) or BADVERS is whole without a record: only additional records may follow, which are
-   OPT, and TSIG or SIG(0).
+   OPT, and TSIG or SIG(0). Then `takes_records` is false.
 
    It fails with DNW_BAD_ITEM if the request has no whole header, or is a response; or if the code is above 15 and the
    request has no EDNS, as then the reply has none either (RFC 6891, section 7), or above 4095. It fails with
@@ -1020,9 +1022,16 @@ enum dnw_list_item {
    required (RFC 2181, section 9), unless the octet says otherwise:
    - all answers, and every record if the operation is not QUERY;
    - all authorities, as SOA (RFC 2308), NSEC and NSEC3, DS, and their signatures (RFC 4035, section 3.1); but not NS if
-     there is an answer of the type that the first question asks for, and then its signatures only if it is written;
+     the last answer of the type that the first question asks for is at the owner of the first NS or below it, and then its
+     signatures only if it is written;
    - additional records of type A and AAAA if there is no such answer and their owner is that of the first NS of the Authority
      section or below it (RFC 9471).
+   TC is also set if a record is left out and another of its set, or an RRSIG that covers it, is there, also by the octet:
+   records of a set may stand apart. It is not for an RRSIG, or if the same record is there, too. At most 4096 pairs of records are compared for that in a section; if there are more, TC
+   is set.
+
+   If `block` is not 0, an OPT record among the last items, owned by the root, gets the option for padding, as dnw_writer_edns
+   adds it: the message, with the items after that record, is a multiple of `block` octets.
 
    It fails with DNW_BAD_ITEM if the list is not one of items in this order; with DNW_NO_ROOM if `message_size` is less
    than DNW_HEADER_SIZE; with DNW_MESSAGE_TOO_LONG if the header, a question or an item with DNW_LIST_LAST does not fit, or
@@ -1030,7 +1039,7 @@ enum dnw_list_item {
    OPT record, unless it is left out since an earlier set of its section was. Then `result` is unchanged, and the buffer
    may hold anything. */
 uint32_t dnw_message_write(const uint8_t *items, size_t items_len, size_t max_size, uint16_t id, uint16_t flags,
-                           uint8_t *message, size_t message_size, struct dnw_packed *result);
+                           uint16_t block, uint8_t *message, size_t message_size, struct dnw_packed *result);
 
 /* Stores the wire form of the reverse name of an address, which owns its PTR records, and its length in `len`. The
    address is 4 bytes for IPv4 (RFC 1035, section 3.5) or 16 for IPv6 (RFC 3596, section 2.5), as in struct in_addr and

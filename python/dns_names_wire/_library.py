@@ -101,6 +101,7 @@ class Edns(ctypes.Structure):
         ("is_present", c_bool),
         ("dnssec_ok", c_bool),
         ("version", c_uint8),
+        ("takes_records", c_bool),
         ("max_payload", c_uint16),
         ("response_code", c_uint16),
         ("options_offset", c_size_t),
@@ -210,7 +211,7 @@ _FUNCTIONS = {
     "dnw_option_print": (c_uint16, *_READ, *_WRITTEN, POINTER(c_size_t)),
     "dnw_message_table": (*_READ, c_size_t, *_WRITTEN, *_WRITTEN, POINTER(Table)),
     "dnw_record_data": (*_READ, c_size_t, *_WRITTEN, POINTER(c_size_t)),
-    "dnw_message_write": (*_READ, c_size_t, c_uint16, c_uint16, *_WRITTEN, POINTER(Packed)),
+    "dnw_message_write": (*_READ, c_size_t, c_uint16, c_uint16, c_uint16, *_WRITTEN, POINTER(Packed)),
     "dnw_writer_begin": (*_WRITTEN, c_size_t, c_uint16, c_uint16, POINTER(Writer)),
     "dnw_writer_query": (
         *_WRITTEN, c_size_t, c_uint16, c_bool, *_READ, c_uint16, c_uint16, c_uint16, POINTER(Writer),

@@ -51,10 +51,12 @@ _NO_TYPE = b"\0\0"
 _MOST = 65535
 _MAX_POINTERS = 65536
 _MOST_ITEMS = ROOM_SIZE - _HEADER_SIZE
-_message_write = by_address("dnw_message_write", 8)
+_message_write = by_address("dnw_message_write", 9)
 _writer_query = by_address("dnw_writer_query", 11)
 _writer_reply = by_address("dnw_writer_reply", 9)
 _MOST_POINTERS = 2**64 - 1
+# A message is padded to a multiple of at most so many octets, by an option that has so many before its own.
+_MOST_BLOCK, _OPTION_SIZE = 512, 4
 
 
 @dataclass(frozen=True)
@@ -366,7 +368,8 @@ class Message:
         if failure:
             check(failure)
         head: Any = room.octets[: room.writer.len]
-        asked, opt, takes_records = room.edns, None, room.writer.rank == 0
+        asked, opt = room.edns, None
+        takes_records = asked.takes_records
         if asked.is_present:
             code = asked.response_code
             opt = (edns_of_reply(asked.dnssec_ok) if edns is None else edns)._record(code)
@@ -394,16 +397,21 @@ class Message:
         check(library.dnw_is_reply_to(asked, len(asked), own, len(own), byref(is_reply)))
         return is_reply.value
 
-    def to_wire(self, max_size: int = 512) -> bytes:
+    def to_wire(self, max_size: int = 512, *, block: int = 0) -> bytes:
         """Returns the message with its names compressed, in at most `max_size` octets: 512 over UDP without EDNS,
         `max_payload` of the request with EDNS, and 65535 over TCP.
 
         Sets of records that do not fit are left out whole (RFC 2181, section 5), with the later ones of their section. TC
         is set if one is left out that the receiver needs (section 9): an answer; a record of the Authority section, but for
-        NS beside an answer of the type that was asked for; or glue below a cut. The questions and the OPT record are never
-        left out; nor is a TSIG or SIG(0), which comes last. Nothing is left out of a request, or of a transfer.
+        NS of a zone that has the answer; or glue below a cut; and if a part of a set is there. The questions and the OPT
+        record are never left out; nor is a TSIG or SIG(0), which comes last. Nothing is left out of a request, or of a
+        transfer.
 
-        Raises `BadData` or as `Record.fields` if the data of a record are not valid, as `edns` if there is an OPT record in
+        If `block` is not 0, a message that was made, with EDNS, is padded to a multiple of so many octets, or of 512 if it is
+        more (RFC 7830; RFC 8467); but not if there is no room for that.
+
+        Raises `ValueError` if a message that was read is to be padded; `BadData` or as `Record.fields` if the data of a record are
+        not valid, as `edns` if there is an OPT record in
         `additionals`, and `MessageTooLong` if what is never left out has more than `max_size` octets.
 
         >>> record = Record.from_text("a. 60 IN TXT " + " ".join(["abcdefgh"] * 100))
@@ -578,7 +586,9 @@ class _Read(Message):
     def _pointers(self) -> int:
         return self._max_pointers
 
-    def to_wire(self, max_size: int = 512) -> bytes:
+    def to_wire(self, max_size: int = 512, *, block: int = 0) -> bytes:
+        if block:
+            raise ValueError("only a message that was made is padded")
         most, wire, packed = _checks.number("max_size", max_size, _MOST), self._wire, Packed()
         # The room is a limit too: what has none in it is left out.
         room = room_of(most)
@@ -632,7 +642,9 @@ class _Made(Message):
         own = () if self._opt is None else (Record._made(self._opt),)
         return (*self._required, *self._others, *own)
 
-    def to_wire(self, max_size: int = 512) -> bytes:
+    def to_wire(self, max_size: int = 512, *, block: int = 0) -> bytes:
+        if block:
+            block = _checks.number("block", block, _MOST)
         if type(max_size) is not int or not 0 <= max_size <= _MOST:
             max_size = _checks.number("max_size", max_size, _MOST)
         parts = [self._asked]
@@ -665,11 +677,12 @@ class _Made(Message):
         except IndexError:
             room = Room()
         octets, place, has = room.octets, room.octets_at, ROOM_SIZE
-        # An item takes no more octets in a message than in the list, but for a header.
-        if size > _MOST_ITEMS < max_size:
-            octets = room_of(min(_HEADER_SIZE + size, max_size))
+        # An item takes no more octets in a message than in the list, but for a header and padding.
+        most = size + _OPTION_SIZE + min(block, _MOST_BLOCK) if block else size
+        if most > _MOST_ITEMS < max_size:
+            octets = room_of(min(_HEADER_SIZE + most, max_size))
             place, has = addressof(octets), len(octets)
-        failure = _message_write(items, size, max_size, *self._head, place, has, room.packed_at)
+        failure = _message_write(items, size, max_size, *self._head, block, place, has, room.packed_at)
         if failure:
             check(failure)
         wire: Any = octets[: room.packed.len]

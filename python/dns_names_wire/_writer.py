@@ -58,7 +58,7 @@ class MessageWriter:
             raise _checks.wrong_type("buffer", "a bytearray is", buffer)
         self._room = (c_char * len(self._buffer)).from_buffer(self._buffer)
         self._state, self._owed_edns = Writer(), None  # type: Writer, Optional[Edns]
-        self._code = 0
+        self._code, self._takes_records = 0, True
 
     @classmethod
     def query(
@@ -120,7 +120,7 @@ class MessageWriter:
             room, len(room), most, wire, len(wire), flags, code, byref(writer._state), byref(asked)
         ))  # fmt: skip
         writer._owed_edns = edns_of_reply(asked.dnssec_ok) if asked.is_present else None
-        writer._code = asked.response_code
+        writer._code, writer._takes_records = asked.response_code, asked.takes_records
         return writer
 
     @property
@@ -244,7 +244,7 @@ def transfer(request: Message, records: Iterable[Record], max_size: int = _MOST)
     items, at = b"".join([part for record in records for part in (ANSWER_ITEM, record.to_wire())]), c_size_t()
     while True:
         writer = MessageWriter.reply(request, max_size, authoritative=True)
-        if writer._code:
+        if not writer._takes_records:
             at.value = len(items)
         else:
             room, state = writer._room, byref(writer._state)

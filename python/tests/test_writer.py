@@ -241,8 +241,59 @@ class Lists(unittest.TestCase):
             cut = reply.to_wire(len(whole) - 1)
             self.assertLess(len(cut), len(whole))
             self.assertEqual(Message.from_wire(cut).header.truncation, is_required, reply)
-            self.assertEqual(Message.from_wire(whole).to_wire(len(whole) - 1), cut)
             self.assertFalse(Message.from_wire(whole).header.truncation)
+            for size in range(21, len(whole)):
+                self.assertEqual(Message.from_wire(whole).to_wire(size), reply.to_wire(size))
+
+    def test_data_above_a_cut_are_no_answer(self) -> None:
+        # the message refers to the cut, and needs its servers and their addresses (RFC 6672, section 3.2; RFC 9471)
+        query, alias = make_query("w.a.", "DNAME", id=7), Record.from_text("a. 60 DNAME b.")
+        for owner, is_required in [("b.", True), ("c.a.", True), ("a.", False), (".", False)]:
+            server = "ns." + owner.lstrip(".")
+            reply = query.reply([alias], [Record(owner, 60, NS(server))], [Record(server, 60, A("192.0.2.1"))])
+            whole = reply.to_wire(65535)
+            self.assertFalse(Message.from_wire(whole).header.truncation)
+            for size in range(len(whole) - 16, len(whole)):
+                self.assertEqual(Message.from_wire(reply.to_wire(size)).header.truncation, is_required, (owner, size))
+                self.assertEqual(Message.from_wire(whole).to_wire(size), reply.to_wire(size))
+
+    def test_sets_that_stand_apart_are_whole(self) -> None:
+        # with TC clear a set is there whole or not at all (RFC 2181, sections 5 and 9), and no signature without its set
+        query, answer = make_query("x.", "A", id=7), Record("x.", 60, A("192.0.2.1"))
+        a, more, other = (
+            Record.from_text(f"{line}") for line in ("a.b. 60 A 192.0.2.1", "A.b. 60 A 192.0.2.2", "a.b. 60 AAAA 2001:db8::1")
+        )
+        signature = Record.from_text("a.b. 60 RRSIG A 8 2 60 20300101000000 20200101000000 1 a. AAAA")
+        third = Record("c.", 60, A("192.0.2.1"))
+        # nothing of a set is missing if what is left out is there already
+        for records in ([a, other, a], [a, more, a], [a, other, more], [more, other, third, other, a], [signature, a], [signature, other, a]):
+            reply = query.reply([answer], [], records)
+            whole = reply.to_wire(65535)
+            for size in range(35, len(whole) + 1):
+                cut = Message.from_wire(reply.to_wire(size))
+                there = len(cut.additionals)
+                half = any(
+                    (RecordType.A if own is signature else own.record_type, own.owner) == (left.record_type, left.owner)
+                    for own in records[:there] for left in records[there:] if left not in records[:there]
+                )  # fmt: skip
+                self.assertEqual(cut.header.truncation, half, (records, size))
+                self.assertEqual(Message.from_wire(whole).to_wire(size), cut.wire)
+
+    def test_a_signer_is_held_back_for_whole(self) -> None:
+        # a SIG(0) is written with its signer whole, also if it stands as a pointer (RFC 3597, section 4)
+        head = "0007 8000 0001 0001 0000 0001 03777777 01610000010001 c00c 0001 0001 0000003c 0004 c0000201"
+        by_pointer, by_name = (
+            bytes.fromhex(f"{head} 00 0018 00ff 00000000 {size} 0000 08 00 00000000 00000002 00000001 0007 {signer} 73")
+            for size, signer in [("0015", "c00c"), ("001a", "03777777016100")]
+        )
+        for size in range(len(by_name) + 5):
+            if size < len(by_name) - 16:
+                with self.assertRaises(dnw.MessageTooLong):
+                    Message.from_wire(by_pointer).to_wire(size)
+            else:
+                cut = Message.from_wire(by_pointer).to_wire(size)
+                self.assertEqual(len(cut), len(by_name) - 16 if size < len(by_name) else len(by_name))
+                self.assertEqual(Message.from_wire(cut).header.truncation, size < len(by_name))
 
     def test_a_request_is_never_cut(self) -> None:
         # half an UPDATE is another UPDATE (RFC 2136, section 3.4.2)
@@ -338,6 +389,20 @@ class Lists(unittest.TestCase):
             writer.edns(block=block)
             writer.last(key, held=len(key.to_wire()))
             self.assertEqual((len(writer.finish()) % block, Message.from_wire(writer.finish()).additionals[1]), (0, key))
+
+    def test_made_messages_are_padded(self) -> None:
+        key = Record(QUESTION.name, 0, KEY.data, RecordClass.ANY)
+        query = make_query(QUESTION.name, "A", id=7, payload=1232)
+        for block in [1, 32, 128, 468, 512, 600]:
+            for others in [[], [key]]:
+                reply = query.reply([Record(QUESTION.name, 60, A("192.0.2.1"))], [], others)
+                padded = reply.to_wire(1300, block=block)
+                self.assertEqual((len(padded) % min(block, 512), Message.from_wire(padded).additionals[1:]), (0, tuple(others)))
+                least = len(reply.to_wire(1300))
+                self.assertEqual(len(reply.to_wire(least, block=block)), least)
+        self.assertEqual(make_query("a.", "A", id=7).to_wire(block=128), make_query("a.", "A", id=7).to_wire())
+        with self.assertRaises(ValueError):
+            Message.from_wire(query.to_wire()).to_wire(block=128)
 
     def test_a_transfer_is_split(self) -> None:
         soa = Record.from_text("a. 60 SOA a. a. 1 2 3 4 5")

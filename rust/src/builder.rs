@@ -78,10 +78,12 @@ pub struct MessageBuilder {
     edns: Option<Opt>,
     /// Whether it may have EDNS: a reply does if its request has.
     takes_edns: bool,
-    /// Whether it is a reply that has to refuse its request, with this code and without records.
-    is_refusal: bool,
+    /// How a reply began: its response code, and whether it takes records with that.
+    begun: Option<(ResponseCode, bool)>,
     /// The last record.
     last: Option<RecordBuf>,
+    /// The message is padded to a multiple of so many octets, if they are not 0.
+    block: u16,
     /// Why there is no such reply.
     failure: Option<Error>,
 }
@@ -111,8 +113,9 @@ impl MessageBuilder {
             ends: [0; SECTIONS],
             edns: None,
             takes_edns: true,
-            is_refusal: false,
+            begun: None,
             last: None,
+            block: 0,
             failure: None,
         }
     }
@@ -147,8 +150,9 @@ impl MessageBuilder {
     /// [`MessageWriter::reply_to`]: crate::MessageWriter::reply_to
     ///
     /// The response code is `NoError`, or what [`response_code`](MessageBuilder::response_code) says. If the request is not
-    /// one to answer, it is `BADVERS` or `FormErr`, whatever that says, and the records of the sections are left out. If
-    /// the request is itself a response, [`finish`](MessageBuilder::finish) fails with `BadItem`.
+    /// one to answer, it is `BADVERS` or `FormErr`, whatever that says. A reply with one of these codes, or `NotImp`, is
+    /// whole without a record: those of the sections are left out. If the request is itself a response,
+    /// [`finish`](MessageBuilder::finish) fails with `BadItem`.
     ///
     /// ```
     /// use dns_names_wire::{Message, MessageBuilder, Name, RecordType};
@@ -171,7 +175,8 @@ impl MessageBuilder {
         let edns = writer.reply(&mut room, REPLY_SIZE, request.octets(), (0, 0))?;
         self.begin_as(&room[..writer.len]);
         self.header.response_code = edns.response_code.into();
-        (self.takes_edns, self.is_refusal) = (edns.is_present, edns.response_code != 0);
+        self.begun = Some((self.header.response_code, edns.takes_records));
+        self.takes_edns = edns.is_present;
         if edns.is_present {
             let (max_payload, version, dnssec_ok) = (USUAL_PAYLOAD, 0, edns.dnssec_ok);
             self.edns = Some(Opt { max_payload, version, dnssec_ok, options: Vec::new() });
@@ -253,7 +258,8 @@ impl MessageBuilder {
     /// # Ok::<(), dns_names_wire::Error>(())
     /// ```
     pub fn response_code(&mut self, code: ResponseCode) -> &mut Self {
-        if !self.is_refusal {
+        // No code was asked for when the reply began. If it has one, that is the only one it can have.
+        if self.begun.map_or(true, |(code, _)| code == ResponseCode::NoError) {
             self.header.response_code = code;
         }
         self
@@ -274,6 +280,21 @@ impl MessageBuilder {
     /// ```
     pub fn edns(&mut self, edns: &Edns<'_>) -> &mut Self {
         self.edns = Some(Opt::of(edns));
+        self
+    }
+
+    /// Pads the message to a multiple of `block` octets, or of 512 if it is more, by an option of its OPT record (RFC 7830;
+    /// RFC 8467). It is not padded without EDNS, or if there is no room for that.
+    ///
+    /// ```
+    /// use dns_names_wire::{Edns, Header, MessageBuilder};
+    ///
+    /// let mut message = MessageBuilder::new(Header::default());
+    /// assert_eq!(message.edns(&Edns::new(1232)).padded(128).finish(512)?.len(), 128);
+    /// # Ok::<(), dns_names_wire::Error>(())
+    /// ```
+    pub fn padded(&mut self, block: u16) -> &mut Self {
+        self.block = block;
         self
     }
 
@@ -481,11 +502,12 @@ impl MessageBuilder {
     /// EDNS, and 65535 over TCP.
     ///
     /// Successive records of a section with the same owner, type and class are a set, which is written whole or left out
-    /// (RFC 2181, section 5); the signatures after NS records are of their set. If a set does not fit, it and the later ones of its section are left out. TC is set if one
-    /// of them is required (RFC 2181, section 9): all answers are; all authorities, but for NS beside an answer of the type
-    /// that was asked for; and the addresses of name servers below a cut (RFC 9471). [`records`](MessageBuilder::records)
-    /// says otherwise. The questions, the OPT record and the last record are never left out, and nothing is left out of a
-    /// request, or of a transfer.
+    /// (RFC 2181, section 5); the signatures after NS records are of their set. If a set does not fit, it and the later ones
+    /// of its section are left out. TC is set if one of them is required (RFC 2181, section 9): all answers are; all
+    /// authorities, but for NS of a zone that has the answer; and the addresses of name servers below a cut (RFC 9471).
+    /// [`records`](MessageBuilder::records) says otherwise. TC is also set if a part of a set is there, whose records stand
+    /// apart. The questions, the OPT record and the last record are never left out, and nothing is left out of a request, or
+    /// of a transfer.
     ///
     /// # Errors
     ///
@@ -534,12 +556,12 @@ impl MessageBuilder {
         }
         let mut list = Room::new();
         self.put_list(&mut list)?;
-        ffi::write_list(list.as_slice(), max_size, (self.header.id, self.header.flag_bits()), message)
+        ffi::write_list(list.as_slice(), max_size, (self.header.id, self.header.flag_bits()), self.block, message)
     }
 
     /// Puts the whole list of items.
     fn put_list(&self, list: &mut Room) -> Result<(), Error> {
-        let len = if self.is_refusal { self.ends[usize::from(QUESTIONS)] } else { self.items.len() };
+        let len = if self.takes_records()? { self.items.len() } else { self.ends[usize::from(QUESTIONS)] };
         list.extend_from_slice(&self.items[..len]);
         let code = u16::from(self.header.response_code);
         match &self.edns {
@@ -553,6 +575,22 @@ impl MessageBuilder {
             list.extend_from_slice(record.as_wire());
         }
         Ok(())
+    }
+
+    /// Returns whether it takes records. With another response code than a reply began with, a message that has that and
+    /// no more says so.
+    fn takes_records(&self) -> Result<bool, Error> {
+        let code = self.header.response_code;
+        match self.begun {
+            None => Ok(true),
+            Some((begun, takes_records)) if begun == code => Ok(takes_records),
+            Some(_) => {
+                let (mut message, mut writer) = ([0; HEADER_SIZE + ffi::EDNS_SIZE], ffi::Writer::none());
+                writer.begin(&mut message, usize::MAX, (0, self.header.flag_bits()))?;
+                writer.edns(&mut message, (0, 0), (0, code.into(), 0, false), &[])?;
+                Ok(ffi::read_edns(&message, 0)?.takes_records)
+            }
+        }
     }
 
     fn data(&mut self, section: u8, name: NameRef<'_>, ttl: u32, data: &RData<'_>) -> Result<&mut Self, Error> {

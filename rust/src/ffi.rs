@@ -48,6 +48,10 @@ const NO_ROOM: u32 = 2;
 pub(crate) const HEADER_SIZE: usize = 12;
 /// The octets of an OPT record without options.
 pub(crate) const EDNS_SIZE: usize = 11;
+/// An option has so many octets before its own.
+const OPTION_SIZE: usize = 4;
+/// A message is padded to a multiple of at most so many octets.
+const MOST_BLOCK: u16 = 512;
 /// The bytes of the longest text of an error.
 pub(crate) const ERROR_TEXT_SIZE: usize = 64;
 /// `DNW_SENTENCE_SIZE`
@@ -149,6 +153,7 @@ pub(crate) struct Edns {
     pub(crate) is_present: bool,
     pub(crate) dnssec_ok: bool,
     pub(crate) version: u8,
+    pub(crate) takes_records: bool,
     pub(crate) max_payload: u16,
     pub(crate) response_code: u16,
     pub(crate) options_offset: usize,
@@ -341,6 +346,7 @@ extern "C" {
         max_size: usize,
         id: u16,
         flags: u16,
+        block: u16,
         message: *mut u8,
         message_size: usize,
         result: *mut Packed,

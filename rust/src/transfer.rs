@@ -74,9 +74,9 @@ impl Transfer {
         let (mut room, mut writer) = (vec![0; self.max_size.into()], ffi::Writer::none());
         let header = Header { authoritative: true, ..Header::default() };
         let edns = writer.reply(&mut room, self.max_size.into(), &self.request, (header.flag_bits(), 0))?;
-        self.next = match edns.response_code {
-            0 => writer.fill(&mut room, &self.items, self.next)?,
-            _ => self.items.len(),
+        self.next = match edns.takes_records {
+            true => writer.fill(&mut room, &self.items, self.next)?,
+            false => self.items.len(),
         };
         if edns.is_present {
             let fields = (USUAL_PAYLOAD, edns.response_code, 0, edns.dnssec_ok);

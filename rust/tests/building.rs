@@ -212,7 +212,88 @@ fn what_is_left_out_is_not_missing() {
         let cut = message.finish(whole.len() as u16 - 1).unwrap();
         assert!(cut.len() < whole.len());
         assert_eq!(Message::read(&cut).unwrap().header().truncation, is_required, "{what}");
-        assert_eq!(Message::read(&whole).unwrap().to_wire(whole.len() as u16 - 1).unwrap(), cut, "{what}");
+        for size in 12 + 9..whole.len() as u16 {
+            assert_eq!(Message::read(&whole).unwrap().to_wire(size), message.finish(size), "{what} {size}");
+        }
+    }
+}
+
+/// Data that lead below a cut are no answer: the message refers to the cut, and needs its servers and their addresses (RFC
+/// 6672, section 3.2; RFC 9471). Data of the zone of the servers are one.
+#[test]
+fn data_above_a_cut_are_no_answer() {
+    let alias = record("a. 60 DNAME b.");
+    for (owner, is_required) in [("b.", true), ("c.a.", true), ("a.", false), (".", false)] {
+        let mut message = response("w.a.", RecordType::DNAME);
+        let server = format!("ns.{}", owner.trim_start_matches('.'));
+        message.answers([&alias]).authorities([record(&format!("{owner} 60 NS {server}"))]);
+        message.additionals([record(&format!("{server} 60 A 192.0.2.1"))]);
+        let whole = message.finish(u16::MAX).unwrap();
+        assert!(!Message::read(&whole).unwrap().header().truncation);
+        for size in whole.len() - 16..whole.len() {
+            let cut = message.finish(size as u16).unwrap();
+            assert_eq!(Message::read(&cut).unwrap().header().truncation, is_required, "{owner} {size}");
+            assert_eq!(Message::read(&whole).unwrap().to_wire(size as u16).unwrap(), cut);
+        }
+    }
+}
+
+/// The records of a set may stand apart in their section, and differ in the case of their owners. If TC is clear, they are all
+/// there, or none (RFC 2181, sections 5 and 9). A signature is never there without its set (RFC 4035, section 3.1.1).
+#[test]
+fn sets_that_stand_apart_are_whole() {
+    const SIGNATURE: &str = "8 2 60 20300101000000 20200101000000 1 a. AAAA";
+    let signature = format!("a.b. 60 RRSIG A {SIGNATURE}");
+    let (a, other, more) = ("a.b. 60 A 192.0.2.1", "a.b. 60 AAAA 2001:db8::1", "A.b. 60 A 192.0.2.2");
+    let orders: [&[&str]; 6] = [
+        // Nothing of a set is missing if what is left out is there already.
+        &[a, other, a],
+        &[a, more, a],
+        &[a, other, more],
+        &[more, other, "c. 60 A 192.0.2.1", other, a],
+        &[&signature, a],
+        &[&signature, other, a],
+    ];
+    for lines in orders {
+        let mut message = response("x.", RecordType::A);
+        message.answers([record("x. 60 A 192.0.2.1")]).additionals(lines.iter().map(|line| record(line)));
+        let whole = message.finish(u16::MAX).unwrap();
+        for size in 35..=whole.len() as u16 {
+            let cut = message.finish(size).unwrap();
+            let read = Message::read(&cut).unwrap();
+            assert_eq!(Message::read(&whole).unwrap().to_wire(size).unwrap(), cut);
+            let there = read.additionals().len();
+            let half = lines[..there].iter().any(|line| {
+                let (own, signs) = (record(line), line.contains("RRSIG"));
+                let kind = if signs { RecordType::A } else { own.record_type() };
+                let missing = lines[there..].iter().filter(|line| !lines[..there].contains(line));
+                let mut left = missing.map(|line| record(line));
+                left.any(|left| left.record_type() == kind && left.as_record().owner() == own.as_record().owner())
+            });
+            assert_eq!(read.header().truncation, half, "{lines:?} {size}");
+        }
+    }
+}
+
+/// As many octets are held back for a SIG(0) as it is written with: its signer whole, also if it stands as a pointer (RFC
+/// 3597, section 4). So no size fails if a smaller one does not.
+#[test]
+fn a_signer_is_held_back_for_whole() {
+    let head = "0007 8000 0001 0001 0000 0001 03777777 01610000010001 c00c 0001 0001 0000003c 0004 c0000201";
+    let signed = |len: &str, signer: &str| {
+        octets(&format!("{head} 00 0018 00ff 00000000 {len} 0000 08 00 00000000 00000002 00000001 0007 {signer} 73"))
+    };
+    let (by_pointer, by_name) = (signed("0015", "c00c"), signed("001a", "03777777016100"));
+    let least = by_name.len() - 16;
+    for size in 0..by_name.len() + 5 {
+        match Message::read(&by_pointer).unwrap().to_wire(size as u16) {
+            Ok(written) => {
+                assert!(size >= least && written.len() <= size);
+                assert_eq!(written.len(), if size < by_name.len() { least } else { by_name.len() });
+                assert_eq!(Message::read(&written).unwrap().header().truncation, size < by_name.len());
+            }
+            Err(error) => assert!(size < least && error.kind() == ErrorKind::MessageTooLong, "{size}"),
+        }
     }
 }
 
@@ -322,6 +403,26 @@ fn the_last_record_is_as_long_as_what_is_held() {
     }
 }
 
+/// A message is padded with the last record after its OPT record, whose names are whole.
+#[test]
+fn built_messages_are_padded() {
+    let tsig = record("key.a. 0 ANY TSIG \\# 19 00 00005F0F9043 012C 0002 491B DCC6 0000 0000");
+    for block in [1, 32, 128, 468, 512, 600] {
+        let mut message = response("key.a.", RecordType::A);
+        message.answers([record("key.a. 60 A 192.0.2.1")]).padded(block);
+        let plain = message.finish(1300).unwrap().len();
+        message.edns(&Edns::new(1232));
+        let padded = message.finish(1300).unwrap();
+        assert_eq!((plain, padded.len() % usize::from(block.min(512))), (12 + 11 + 16, 0));
+        let signed = message.last(&tsig).finish(1300).unwrap();
+        assert_eq!(signed.len() % usize::from(block.min(512)), 0);
+        assert_eq!(Message::read(&signed).unwrap().additionals().last(), Some(tsig.as_record()));
+        // no padding without room
+        let least = plain + 11 + tsig.as_wire().len();
+        assert_eq!(message.finish(least as u16).unwrap().len(), least);
+    }
+}
+
 /// A reply has EDNS if its request has (RFC 6891, sections 6.1.1 and 7), and a code above 15 only with it.
 #[test]
 fn a_reply_has_edns_only_if_the_request_has() {
@@ -349,8 +450,16 @@ fn a_reply_has_edns_only_if_the_request_has() {
         let written = MessageBuilder::reply_to(&by_edns).response_code(code).finish(512).unwrap();
         assert_eq!(Message::read(&written).unwrap().response_code(), Ok(code));
     }
-    // A refusal is whole without a record, and keeps its code.
+    // A refusal is whole without a record, and keeps its code. So are others that the server chooses.
     let address = record("a. 60 A 192.0.2.1");
+    for code in (0..32).map(ResponseCode::from) {
+        let mut reply = MessageBuilder::reply_to(&by_edns);
+        let written = reply.response_code(code).answers([&address]).additionals([&address]).finish(512).unwrap();
+        let read = Message::read(&written).unwrap();
+        let is_bare = [ResponseCode::FormErr, ResponseCode::NotImp, ResponseCode::BADVERS].contains(&code);
+        assert_eq!((read.answers().len(), read.additionals().len()), if is_bare { (0, 1) } else { (1, 2) }, "{code}");
+        assert_eq!(read.response_code(), Ok(code));
+    }
     let written =
         MessageBuilder::reply_to(&two).response_code(ResponseCode::Refused).answers([&address]).finish(512).unwrap();
     let read = Message::read(&written).unwrap();

@@ -241,10 +241,10 @@ pub use Rattle.dnw_message_writer.specs.SizeLaws.{QuestionsTakeNoMore, RecordsTa
 pub use Rattle.dnw_message_writer.specs.CompressedNames.{Compresses, FindsHint, FindsNoHint, former_hint, kept_hints, later_hint, MayPointTo, pointer_octets, put_at, PutsForm, PutsPast, spelled}
 pub use Rattle.dnw_message_writer.specs.ContentLaws.{given_form, GivenRecordsAreAdded}
 pub use Rattle.dnw_message_writer.specs.Copying.{AreASet, AreOfOneKind, AreOfOneSet, CopiesHeld, CopiesMessage, CopiesQuestions, CopiesSections, CopiesSets, copied_past, CopyFits, EndsBefore}
-pub use Rattle.dnw_message_writer.specs.Copying.{FailsHeld, FailsQuestions, FailsSections, FailsSets, FailsToAddCopy, FailsToAddQuery, FailsToCopyMessage, FollowsFew, StopsAmong}
+pub use Rattle.dnw_message_writer.specs.Copying.{FailsHeld, FailsQuestions, StopsAtQuestion, FailsSections, FailsSets, FailsToAddCopy, FailsToAddQuery, FailsToCopyMessage, FollowsFew, StopsAmong}
 pub use Rattle.dnw_message_writer.specs.Copying.{StandWhole, StopsInSet}
-pub use Rattle.dnw_message_writer.specs.Copying.{copied_form, covers_no_type, held_from, held_in, is_held, lacks_required, left_out_of, MayNotMiss, Misses, own_octets, query_form, sets_of, signs_message}
-pub use Rattle.dnw_message_writer.specs.CopyLaws.{AreItemsOf, AreTheFirst, CopiesHold, IsCopiedQuestion, IsCopiedRecord}
+pub use Rattle.dnw_message_writer.specs.Copying.{copied_form, covers_no_type, FailsToHold, held_in, HoldsFor, is_held, IsWholeSize, lacks_half_of, lacks_of, lacks_record_of, lacks_some, left_out_of, MayNotMiss, Misses, query_form, section_records, sets_of, signs_message, size_with, there_of}
+pub use Rattle.dnw_message_writer.specs.CopyLaws.{AreItemsOf, AreTheFirst, CopiesHold, IsCopiedQuestion, IsCopiedRecord, is_missing_of, AreNotHalved, HasWholeSets, IsAmong, SetsAreWhole}
 pub use Rattle.dnw_message_writer.specs.Data.{AreOfData}
 pub use Rattle.dnw_message_writer.specs.Edns.{AddsOpt, AddsOptItem, FailsToAddOpt, FailsToAddOptItem, opt_data, opt_size, padding, ttl_of_edns}
 pub use Rattle.dnw_message_writer.specs.Hints.{slot_of}
@@ -252,14 +252,14 @@ pub use Rattle.dnw_message_writer.specs.Items.{fields_of_record, IsNear, IsOwner
 pub use Rattle.dnw_message_writer.specs.Items.{question_form, question_past, record_form, record_past}
 pub use Rattle.dnw_message_writer.specs.Listed.{data_form, data_past, FailsListed, FailsToAddData, ListsData}
 pub use Rattle.dnw_message_writer.specs.NameLaws.{CompressedNamesTakeNoMore, KeepsSettled, WrittenNamesAreRead}
-pub use Rattle.dnw_message_writer.specs.Needs.{with_asked, with_all_asked, has_left_required, has_required, holding, holding_all, is_of_address, is_below, is_below_cut, is_glue, is_extra, is_of_query, is_request, is_required, is_required_in, is_server, is_transfer, is_uncut, purpose_by, purpose_of, signs_servers}
+pub use Rattle.dnw_message_writer.specs.Needs.{are_beside, are_the_same, has_data_below, has_half, has_half_in, has_required, halves, holding, holding_all, is_answered, is_half_after, is_half_there, is_of_address, last_data, most_pairs, set_type, signs_set, with_all_asked, with_asked, is_below, is_below_cut, is_glue, is_extra, is_of_query, is_request, is_required, is_required_in, is_server, is_transfer, is_uncut, purpose_by, purpose_of, signs_servers}
 pub use Rattle.dnw_message_writer.specs.Pieces.{ArePieces, GoesPast, IsPiece}
 pub use Rattle.dnw_message_writer.specs.Queries.{AddsSize, BeginsQuery, FailsToAddSize, FailsToQuery, query_flags}
 pub use Rattle.dnw_message_writer.specs.ReadItems.{GivenDataComeBack}
-pub use Rattle.dnw_message_writer.specs.Replies.{AsksOf, BeginsReplyTo, FailsToReply, reply_code, reply_flags}
+pub use Rattle.dnw_message_writer.specs.Replies.{AsksOf, BeginsReplyTo, FailsToReply, badvers_code, formerr_code, notimp_code, reply_code, reply_flags, takes_records}
 pub use Rattle.dnw_message_writer.specs.Sections.{offset_of_count, rank}
 pub use Rattle.dnw_message_writer.specs.Sets.{cut_off, CutsOff, FailsToAddSet}
-pub use Rattle.dnw_message_writer.specs.SizeLaws.{HintsAtLabels, HintsBegin, IsNearNext, NearOwnersTakeTwo, QuestionsAreNear, RecordsAreNear}
-pub use Rattle.dnw_message_writer.specs.States.{added, AddsItem, AddsLastItem, BeginsMessage, FailsToAdd, IsLimit, IsOfMessage, IsSingle, released, room_of}
+pub use Rattle.dnw_message_writer.specs.SizeLaws.{IsPlainPiece, HintsAtLabels, HintsBegin, IsNearNext, LastRecordsAreWhole, NearOwnersTakeTwo, QuestionsAreNear, RecordsAreNear}
+pub use Rattle.dnw_message_writer.specs.States.{added, AddsItem, AddsLastItem, BeginsMessage, FailsToAdd, for_last, IsLimit, IsOfMessage, IsSingle, more_octets, released, room_of}
 pub use Rattle.dnw_message_writer.specs.declared.section.Section.TheVariants.{Additionals, Answers, Authorities, Queries}
 pub use Rattle.dnw_message_writer.specs.declared.state.WriterState.{WriterState}

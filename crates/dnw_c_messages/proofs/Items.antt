@@ -41,7 +41,7 @@ question_onward {d} {name} {t} {c} {after} q =
 pub scan_onward : (octet : ℕ) (d : Decoder) (before : Purpose) (size : ℕ) (after : Decoder) (needs : Purpose) → ScansItem octet d before size after needs
     → IsOnward d after
 scan_onward octet d before size after needs (inl (is, name, t, c, takes, asks)) = question_onward takes
-scan_onward octet d before size after needs (inr (other, ok, x, takes, is, has)) = record_onward takes.1
+scan_onward octet d before size after needs (inr (s, ok, x, takes, is, has)) = record_onward takes.1
 
 -- ---- the scan of a list
 

@@ -4,6 +4,7 @@ mod RecordReads
 pub mod TypeCodes
 mod Forms
 mod Items
+mod Comparing
 mod InTurn
 mod Runs
 mod Sheets

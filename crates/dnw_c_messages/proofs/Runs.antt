@@ -1,5 +1,5 @@
 -- Records of a set that are added in turn: what stays of the message, and what is taken back.
-use Rattle.std.proofs.Common.{◌≡◌, ◌≢◌, ◌⊎◌, ℕ, ◌<◌, ◌≤◌, true, false, List, length, take, refl, sym, ap, ◌∙◌, subst, inl, inr, arith}
+use Rattle.std.proofs.Common.{◌≡◌, ◌≢◌, ◌⊎◌, ℕ, ◌<◌, ◌≤◌, Bool, true, false, List, length, take, refl, sym, ap, ◌∙◌, subst, inl, inr, arith}
 use Rattle.dnw_base.specs.Decoder.{Decoder}
 use Rattle.dnw_record.specs.Records.{RecordValue}
 use Rattle.dnw_message_writer.specs.CompressedNames.{put_at}
@@ -21,7 +21,9 @@ use Rattle.dnw_c_base.specs.declared.failure.Failure.{Failure}
 use Rattle.dnw_c_base.specs.declared.failure.Failure.TheVariants as why
 use Rattle.std.proofs.lemmas.List.{length-take}
 use Rattle.dnw_c_messages.specs.declared.writing.LeftOut.{LeftOut}
-use Rattle.dnw_c_messages.specs.ListCalls.{AddsListed, AddsRecords, AddsRun, BeginsWithOctet, FailsToAddListed, FailsToAddRecords, FailsToGo, Goes, GoesFrom, IsNoItem, IsNoneOfSet, IsOctetOf, IsTakenBack, AddsHeldItem, LacksListed, Progress, TakesListed, TakesQuestion, further, here, last, last_octet, left_out, left_with, more, no_room, none, progress, progress_at, question, set}
+use Rattle.dnw_c_messages.specs.ListCalls.{AddsListed, AddsRecords, AddsRun, BeginsWithOctet, FailsToAddListed, FailsToAddRecords, FailsToGo, Goes, GoesFrom, IsHalved, IsLeftOut, IsNoItem, IsNoneOfSet, IsOctetOf, AddsEndItem, LacksListed, Progress, TakesListed, TakesQuestion, further, here, last, last_octet, left_out, left_with, more, no_room, none, nothing_left_out, pairs_left, progress, progress_at, question, set, what_is_there}
+use Rattle.dnw_c_messages.specs.declared.halved.There.{There}
+use Rattle.dnw_c_messages.specs.WriterCalls.{StaysAsItWas}
 use Rattle.dnw_base.specs.DnsClasses.{class_code}
 use Rattle.dnw_base.specs.RecordTypes.{type_code}
 use Rattle.dnw_c_messages.proofs.Items.{IsOnward, onward_trans, question_onward, record_onward}
@@ -33,8 +35,6 @@ pub record Ran (octet : ℕ) (s : Section) (x : RecordValue) (start : Decoder) (
   pub kept : KeptCount s (take w.end m) (take w.end n)
   pub size : length n ≡ length m
   pub whole : (12 ≤ w.end) ⊎ (v.end ≡ w.end)
-  pub max_same : v.max_size ≡ w.max_size
-  pub reserved_same : v.reserved ≡ w.reserved
 
 module _ (octet : ℕ) (s : Section) (first : RecordValue) (start : Decoder) (w : WriterState) (m : List ℕ) where
   pub ran_none : Ran octet s first start w m start w m
@@ -44,8 +44,6 @@ module _ (octet : ℕ) (s : Section) (first : RecordValue) (start : Decoder) (w 
     kept = inl refl;
     size = refl;
     whole = inr refl;
-    max_same = refl;
-    reserved_same = refl;
   }
 
   module _ {d : Decoder} {v : WriterState} {n : List ℕ} (g : Ran octet s first start w m d v n) where
@@ -56,15 +54,12 @@ module _ (octet : ℕ) (s : Section) (first : RecordValue) (start : Decoder) (w 
         let further = g.further in
         let header = added.3.message.whole in
         let whole : 12 ≤ w.end = elim g.whole [ inl above ↦ above | inr same ↦ omega (arith, same, header) ] in
-        let state = added.6 in
         record {
           run = more d after v u n o x g.run takes same_set (pieces, has, added);
-          further = omega (arith, further, ap (λ (x : WriterState). x.end) state);
+          further = omega (arith, further, ap (λ (x : WriterState). x.end) added.6);
           kept = kept_on s m w.end (record_form slot_of x.owner (type_code x.record_type) (class_code x.class) x.ttl pieces) v u n o whole further g.size g.kept added;
           size = size ∙ g.size;
           whole = inl whole;
-          max_same = ap (λ (x : WriterState). x.max_size) state ∙ g.max_same;
-          reserved_same = ap (λ (x : WriterState). x.reserved) state ∙ g.reserved_same;
         }
 
     -- the next one is not
@@ -95,22 +90,21 @@ module _ {octet : ℕ} {s : Section} {d : Decoder} {x : RecordValue} {after : De
       ran_on octet s x d w m (ran_none octet s x d w m) x after v n size takes (inl refl, refl, refl) adds
 
   -- the first is not added
-  pub first_fails : (failure : Failure) (v : WriterState) → v ≡ w → FailsToAddListed s x w m failure
-      → FailsToAddRecords d octet s w m v failure
-  first_fails failure v unchanged fails =
-      subst (λ z. FailsToAddRecords d octet s w m z failure) (sym unchanged) (record {
-        x = x;
-        next = after;
-        first = takes;
-        at = d;
-        between = m;
-        run = none;
-        y = x;
-        after = after;
-        takes = takes;
-        same = (inl refl, refl, refl);
-        fails = fails;
-      })
+  pub first_fails : (failure : Failure) → FailsToAddListed s x w m failure → FailsToAddRecords d octet s w m failure
+  first_fails failure fails = record {
+    x = x;
+    next = after;
+    first = takes;
+    at = d;
+    v = w;
+    between = m;
+    run = none;
+    y = x;
+    after = after;
+    takes = takes;
+    same = (inl refl, refl, refl);
+    fails = fails;
+  }
 
   module _ {at : Decoder} {v : WriterState} {n : List ℕ} (g : Ran octet s x d w m at v n) where
     pub run_on : (y : RecordValue) (later : Decoder) (u : WriterState) (o : List ℕ) → length o ≡ length n → TakesListed at octet y later
@@ -120,13 +114,14 @@ module _ {octet : ℕ} {s : Section} {d : Decoder} {x : RecordValue} {after : De
     pub run_ends : IsNoneOfSet at octet x → AddsRecords d octet s w m at v n
     run_ends others = record { x = x; next = after; first = takes; run = g.run; others = others }
 
-    pub run_fails : (y : RecordValue) (later : Decoder) (u : WriterState) (failure : Failure) → u ≡ v → TakesListed at octet y later
-        → AreOfOneSet x y → FailsToAddListed s y v n failure → FailsToAddRecords d octet s w m u failure
-    run_fails y later u failure unchanged next same fails = subst (λ z. FailsToAddRecords d octet s w m z failure) (sym unchanged) (record {
+    pub run_fails : (y : RecordValue) (later : Decoder) (failure : Failure) → TakesListed at octet y later → AreOfOneSet x y
+        → FailsToAddListed s y v n failure → FailsToAddRecords d octet s w m failure
+    run_fails y later failure next same fails = record {
       x = x;
       next = after;
       first = takes;
       at = at;
+      v = v;
       between = n;
       run = g.run;
       y = y;
@@ -134,13 +129,9 @@ module _ {octet : ℕ} {s : Section} {d : Decoder} {x : RecordValue} {after : De
       takes = next;
       same = same;
       fails = fails;
-    })
+    }
 
 -- what was added is taken back
-pub taken_state : (w v after : WriterState) → after ≡ record v { end = w.end; owner = w.owner; rank = w.rank; has_opt = w.has_opt } → v.max_size ≡ w.max_size
-    → v.reserved ≡ w.reserved → after ≡ record w { hints = v.hints }
-taken_state w v after is most held = is ∙ rw (most, held) refl
-
 pub taken_message : (s : Section) (e : ℕ) (old n o count : List ℕ) → length n ≡ length old → KeptCount s (take e old) (take e n)
     → (12 ≤ length old → count ≡ count_octets old (offset_of_count s))
     → ((12 ≤ e) × (12 ≤ length n) × (o ≡ put_at n (offset_of_count s) count)) ⊎ (((e < 12) ⊎ (length n < 12)) × (o ≡ n))
@@ -163,48 +154,61 @@ records_onward {d} {octet} g =
     ]
 
 -- what is next in a list has octets of its own
-pub goes_onward : (needs : Purpose) (p q : Progress) → Goes needs p q → IsOnward p.items q.items
-goes_onward needs p q (question name t c takes adds same) = question_onward takes
-goes_onward needs p q (set octet s is ready adds same) = records_onward adds
-goes_onward needs p q (no_room octet s x v is ready fails cut back takes same) = record_onward takes.1
-goes_onward needs p q (left_out octet s x is shut takes state message same) = record_onward takes.1
-goes_onward needs p q (last x takes adds same) = record_onward takes.1
+pub goes_onward : (needs : Purpose) (block : ℕ) (p q : Progress) → Goes needs block p q → IsOnward p.items q.items
+goes_onward needs block p q (question name t c takes adds same) = question_onward takes
+goes_onward needs block p q (set octet s is ready adds same) = records_onward adds
+goes_onward needs block p q (no_room octet s x is ready fails cut back takes same) = record_onward takes.1
+goes_onward needs block p q (left_out octet s x is shut takes state message same) = record_onward takes.1
+goes_onward needs block p q (last x takes adds same) = record_onward takes.1
 
 -- Items are written up to a decoder, which is in the list.
-pub record Gone (list : List ℕ) (needs : Purpose) (w : WriterState) (m : List ℕ) (p : Progress) : Type 0 where
-  pub goes : GoesFrom needs (progress_at list w m) p
+pub record Gone (list : List ℕ) (needs : Purpose) (block : ℕ) (w : WriterState) (m : List ℕ) (p : Progress) : Type 0 where
+  pub goes : GoesFrom needs block (progress_at list w m) p
   pub same : p.items.bytes ≡ list
   pub inside : p.items.index ≤ length list
 
-pub gone_none : (list : List ℕ) (needs : Purpose) (w : WriterState) (m : List ℕ) (d : Decoder) (left : LeftOut) → d ≡ record { bytes = list; index = 0 }
-    → left ≡ record { closed = 0; missing = false; servers = false } → Gone list needs w m (progress d w m left)
-gone_none list needs w m d left is same =
-    subst (λ e. Gone list needs w m (progress e w m left)) (sym is)
-    (subst (λ l. Gone list needs w m (progress (at_offset list 0) w m l)) (sym same) (record { goes = here; same = refl; inside = omega arith }))
+pub gone_none : (list : List ℕ) (needs : Purpose) (block : ℕ) (w : WriterState) (m : List ℕ) (d : Decoder) (left : LeftOut) → d ≡ record { bytes = list; index = 0 }
+    → left ≡ nothing_left_out → Gone list needs block w m (progress d w m left)
+gone_none list needs block w m d left is same =
+    subst (λ e. Gone list needs block w m (progress e w m left)) (sym is)
+    (subst (λ l. Gone list needs block w m (progress (at_offset list 0) w m l)) (sym same) (record { goes = here; same = refl; inside = omega arith }))
 
-pub gone_on : {list : List ℕ} {needs : Purpose} {w : WriterState} {m : List ℕ} {p : Progress} → Gone list needs w m p → (q : Progress) → Goes needs p q
-    → Gone list needs w m q
-gone_on {list} {needs} {w} {m} {p} g q goes =
-    let onward = goes_onward needs p q goes in
+pub gone_on : {list : List ℕ} {needs : Purpose} {block : ℕ} {w : WriterState} {m : List ℕ} {p : Progress} → Gone list needs block w m p → (q : Progress) → Goes needs block p q
+    → Gone list needs block w m q
+gone_on {list} {needs} {block} {w} {m} {p} g q goes =
+    let onward = goes_onward needs block p q goes in
     let same = onward.same ∙ g.same in
     let inside = onward.inside in
     record { goes = further p q g.goes goes; same = same; inside = omega (arith, inside, ap length same) }
 
-module _ (needs : Purpose) where
+-- a record that is next is left out
+abbrev pub Leaves : Purpose → ℕ → Section → There → Decoder → LeftOut → Decoder → LeftOut → Type 0
+Leaves needs octet s there d left after now =
+    (x : RecordValue) × (half : Bool) × TakesListed d octet x after × IsHalved (pairs_left s left) there d.bytes x half
+    × (now ≡ left_with needs s octet there half x left)
+
+module _ (needs : Purpose) (block : ℕ) where
   pub question_goes : (d after : Decoder) (w v : WriterState) (m n : List ℕ) (left : LeftOut)
       → ((name : List (List ℕ)) × (t : ℕ) × (c : ℕ) × TakesQuestion d name t c after × AddsItem Sections.Queries (question_form slot_of name t c) w m v n)
-      → Goes needs (progress d w m left) (progress after v n left)
+      → Goes needs block (progress d w m left) (progress after v n left)
   question_goes d after w v m n left (name, t, c, takes, adds) = question name t c takes adds refl
 
   pub last_goes : (d after : Decoder) (w v : WriterState) (m n : List ℕ) (left : LeftOut)
-      → ((x : RecordValue) × TakesListed d last_octet x after × AddsHeldItem x w m v n) → Goes needs (progress d w m left) (progress after v n left)
+      → ((x : RecordValue) × TakesListed d last_octet x after × AddsEndItem block x w m v n) → Goes needs block (progress d w m left) (progress after v n left)
   last_goes d after w v m n left (x, takes, adds) = last x takes adds refl
 
-  pub passed : (octet r : ℕ) (s : Section) (d after : Decoder) (w : WriterState) (m : List ℕ) (left now : LeftOut)
-      → IsOctetOf octet s → r ≡ rank s → r ≡ left.closed → ((x : RecordValue) × TakesListed d octet x after × (now ≡ left_with needs s octet x left))
-      → Goes needs (progress d w m left) (progress after w m now)
-  passed octet r s d after w m left now is rank_is shut (x, takes, left_is) =
-      left_out octet s x is (sym rank_is ∙ shut) takes refl refl left_is
+  -- a record is left out, by what is there of its section
+  pub out_of : (octet : ℕ) (s : Section) (p q : Progress) (there : There) (x : RecordValue) (half : Bool) → there ≡ what_is_there s p
+      → IsHalved (pairs_left s p.left) there p.items.bytes x half → q.left ≡ left_with needs s octet there half x p.left → IsLeftOut needs octet s p x q
+  out_of octet s p q there x half is halved left_is =
+      (half, subst (λ t. IsHalved (pairs_left s p.left) t p.items.bytes x half) is halved, left_is ∙ ap (λ t. left_with needs s octet t half x p.left) is)
+
+  pub passed : (octet r : ℕ) (s : Section) (d after : Decoder) (w : WriterState) (m : List ℕ) (left now : LeftOut) (there : There)
+      → there ≡ what_is_there s (progress d w m left) → IsOctetOf octet s → r ≡ rank s → r ≡ left.closed → Leaves needs octet s there d left after now
+      → Goes needs block (progress d w m left) (progress after w m now)
+  passed octet r s d after w m left now there there_is is rank_is shut (x, half, takes, halved, left_is) =
+      left_out octet s x is (sym rank_is ∙ shut) takes refl refl
+      (out_of octet s (progress d w m left) (progress after w m now) there x half there_is halved left_is)
 
 -- the octet before a record is not that before a question
 pub octet_other : (octet : ℕ) (s : Section) → IsOctetOf octet s → octet ≢ 0
@@ -217,18 +221,18 @@ pub lacks_item : (octet : ℕ) (s : Section) (d : Decoder) (failure : Failure) �
     → LacksListed d × (failure ≡ why.BadItem) → IsNoItem d × (failure ≡ why.BadItem)
 lacks_item octet s d failure is begins (lacks, bad) = (inr (inr (inr (octet, begins, octet_other octet s is, lacks))), bad)
 
-module _ (needs : Purpose) (octet : ℕ) (s : Section) (p : Progress) (is : IsOctetOf octet s) (ready : rank s ≢ p.left.closed) where
-  pub set_left_out : (after : Decoder) (v : WriterState) (failure : Failure) (u : WriterState) (o : List ℕ) (now : LeftOut)
-      → FailsToAddRecords p.items octet s p.state p.message v failure ⊎ ((failure ≡ why.BadItem) × LacksListed p.items)
-      → failure ≡ why.MessageTooLong → is_uncut needs ≡ false → IsTakenBack p.state p.message v u o
-      → ((x : RecordValue) × TakesListed p.items octet x after × (now ≡ left_with needs s octet x p.left))
-      → Goes needs p (progress after u o now)
-  set_left_out after v failure u o now (inl fails) long cut back (x, takes, left_is) =
-      no_room octet s x v is ready (subst (FailsToAddRecords p.items octet s p.state p.message v) long fails) cut back takes left_is
-  set_left_out after v failure u o now (inr (bad, other)) long cut back left_is = let clash = sym bad ∙ long in absurd cc
+module _ (needs : Purpose) (block octet : ℕ) (s : Section) (p : Progress) (is : IsOctetOf octet s) (ready : rank s ≢ p.left.closed) where
+  pub set_left_out : (after : Decoder) (failure : Failure) (u : WriterState) (o : List ℕ) (now : LeftOut) (there : There) → there ≡ what_is_there s p
+      → FailsToAddRecords p.items octet s p.state p.message failure ⊎ ((failure ≡ why.BadItem) × LacksListed p.items)
+      → failure ≡ why.MessageTooLong → is_uncut needs ≡ false → StaysAsItWas p.state p.message u o
+      → Leaves needs octet s there p.items p.left after now → Goes needs block p (progress after u o now)
+  set_left_out after failure u o now there there_is (inl fails) long cut back (x, half, takes, halved, left_is) =
+      no_room octet s x is ready (subst (FailsToAddRecords p.items octet s p.state p.message) long fails) cut back takes
+      (out_of needs block octet s p (progress after u o now) there x half there_is halved left_is)
+  set_left_out after failure u o now there there_is (inr (bad, other)) long cut back left_is = let clash = sym bad ∙ long in absurd cc
 
-  pub set_fails : (v : WriterState) (failure : Failure) → BeginsWithOctet p.items octet
-      → FailsToAddRecords p.items octet s p.state p.message v failure ⊎ ((failure ≡ why.BadItem) × LacksListed p.items)
-      → (failure ≡ why.MessageTooLong → is_uncut needs ≡ true) → FailsToGo needs p failure
-  set_fails v failure begins (inl fails) uncut = inr (inr (inl (octet, s, v, is, ready, fails, uncut)))
-  set_fails v failure begins (inr (bad, lacks)) uncut = inl (lacks_item octet s p.items failure is begins (lacks, bad))
+  pub set_fails : (failure : Failure) → BeginsWithOctet p.items octet
+      → FailsToAddRecords p.items octet s p.state p.message failure ⊎ ((failure ≡ why.BadItem) × LacksListed p.items)
+      → (failure ≡ why.MessageTooLong → is_uncut needs ≡ true) → FailsToGo needs block p failure
+  set_fails failure begins (inl fails) uncut = inr (inr (inl (octet, s, is, ready, fails, uncut)))
+  set_fails failure begins (inr (bad, lacks)) uncut = inl (lacks_item octet s p.items failure is begins (lacks, bad))

@@ -2,7 +2,7 @@
 use Rattle.std.specs.Prelude.{◌≡◌, ℕ, List, Result, MatchResult}
 use Rattle.dnw_c_base.specs.declared.failure.Failure.{Failure}
 use Rattle.dnw_c_base.specs.declared.failure.Failure.TheVariants as why
-use Rattle.dnw_message_writer.specs.Replies.{BeginsReplyTo, FailsToReply, reply_code}
+use Rattle.dnw_message_writer.specs.Replies.{BeginsReplyTo, FailsToReply, reply_code, takes_records}
 use Rattle.dnw_message_writer.specs.declared.reply.Asked.{Asked}
 use Rattle.dnw_message_writer.specs.declared.reply.ReplyError.{ReplyError}
 use Rattle.dnw_message_writer.specs.declared.reply.ReplyError.TheVariants.{LongCode, NoRequest, Write}
@@ -22,6 +22,7 @@ read_asked code asked = record {
   is_present = asked.has_edns;
   dnssec_ok = asked.dnssec_ok;
   version = 0;
+  takes_records = takes_records (reply_code asked code);
   max_payload = asked.max_payload;
   response_code = reply_code asked code;
   options_offset = 0;

@@ -12,15 +12,18 @@ use Rattle.dnw_message_read.specs.declared.edns.EdnsError.{EdnsError}
 use Rattle.dnw_message_read.specs.declared.edns.EdnsError.TheVariants.{CutOption, Decode, OwnerNotRoot}
 use Rattle.dnw_message_read.specs.declared.error.MessageError.{MessageError}
 use Rattle.dnw_message_read.specs.declared.response_code.ResponseCode.{ResponseCode}
+use Rattle.dnw_message_writer.specs.Replies.{takes_records}
 use Rattle.dnw_c_messages.specs.MessageCalls.{of_message}
 use Rattle.dnw_c_messages.specs.declared.edns.ReadEdns.{ReadEdns}
 
--- what C learns of the EDNS of a message with this response code; without an OPT record, what any receiver accepts
+-- what C learns of the EDNS of a message with this response code, and if one with this code takes records; without an OPT record, what
+-- any receiver accepts
 abbrev pub read_edns : Option EdnsValue → ResponseCode → ReadEdns
 read_edns None code = record {
   is_present = false;
   dnssec_ok = false;
   version = 0;
+  takes_records = takes_records (response_code code);
   max_payload = min_payload;
   response_code = response_code code;
   options_offset = 0;
@@ -30,6 +33,7 @@ read_edns (Some e) code = record {
   is_present = true;
   dnssec_ok = e.dnssec_ok;
   version = e.version;
+  takes_records = takes_records (response_code code);
   max_payload = e.max_payload;
   response_code = response_code code;
   options_offset = e.start;

@@ -4,13 +4,14 @@
 -- and 4.1.3). The octet is the number of the sections before the item's own. What may be left out of a message is defined in
 -- `dnw_message_writer`, in `Needs.antt`; the caller may say otherwise of a record, by 32 more if the message has to have it, and by 128
 -- more if it may be left out. For one of the last items of the message, which are never left out, the octet is 64 more.
-use Rattle.std.specs.Prelude.{◌≡◌, ◌≢◌, ◌<◌, ◌≤◌, ◌⊎◌, ◌==◌, ◌&&◌, ◌||◌, nat_lt, ℕ, ◌+◌, ◌%◌, min, if◌then◌else◌, Bool, true, false, Some, List, length, take, slice_get, Result, MatchResult}
+use Rattle.std.specs.Prelude.{◌≡◌, ◌≢◌, ◌<◌, ◌≤◌, ◌⊎◌, ◌==◌, ◌&&◌, ◌||◌, nat_lt, ℕ, zero, suc, ◌+◌, ◌-◌, ◌/◌, ◌%◌, ◌^◌, if◌then◌else◌, Bool, true, false, Some, List, length, slice_get, Result, MatchResult}
 use Rattle.std.specs.Int.{w16, from_be_bytes}
 use Rattle.dnw_base.specs.declared.error.DecodeError.{DecodeError}
 use Rattle.dnw_base.specs.Decoder.{Decoder, HasLeft, next_bytes, advanced}
 use Rattle.dnw_base.specs.DnsClasses.{class_code}
 use Rattle.dnw_base.specs.Names.{encoded_size}
 use Rattle.dnw_base.specs.RecordTypes.{type_code}
+use Rattle.dnw_base.specs.TypeCodes.{opt_code}
 use Rattle.dnw_name_read.specs.Reading.{TakesName}
 use Rattle.dnw_name.specs.Decodable.{StopsSomehow}
 use Rattle.dnw_record.specs.Records.{FailsRecord, RecordValue, TakesRecord, data_octets}
@@ -18,10 +19,10 @@ use Rattle.dnw_message_read.specs.Headers.{header_size}
 use Rattle.dnw_message_writer.specs.Copying.{AreOfOneSet}
 use Rattle.dnw_message_writer.specs.Hints.{slot_of}
 use Rattle.dnw_message_writer.specs.Items.{question_form, question_past}
-use Rattle.dnw_message_writer.specs.Needs.{with_asked, holding, is_required, is_server, is_uncut, purpose_by}
+use Rattle.dnw_message_writer.specs.Needs.{are_the_same, halves, with_asked, holding, is_required, is_server, is_uncut, most_pairs, purpose_by}
 use Rattle.dnw_message_writer.specs.Sections.{rank}
 use Rattle.dnw_message_writer.specs.Sets.{cut_off}
-use Rattle.dnw_message_writer.specs.States.{AddsItem, BeginsMessage, for_last}
+use Rattle.dnw_message_writer.specs.States.{AddsItem, BeginsMessage, count_in_header, for_last, more_octets}
 use Rattle.dnw_message_writer.specs.declared.needs.Purpose.{Purpose}
 use Rattle.dnw_message_writer.specs.declared.section.Section.{Section}
 use Rattle.dnw_message_writer.specs.declared.section.Section.TheVariants as Sections
@@ -30,8 +31,10 @@ use Rattle.dnw_c_base.specs.Offsets.{at_offset}
 use Rattle.dnw_c_base.specs.declared.failure.Failure.{Failure}
 use Rattle.dnw_c_base.specs.declared.failure.Failure.TheVariants as why
 use Rattle.dnw_c_messages.specs.Packed.{is_cut}
-use Rattle.dnw_c_messages.specs.WriterCalls.{AddsOwned, FailsToAddItem, FailsToAddOwned}
+use Rattle.dnw_c_messages.specs.SetCalls.{AddsEdns, FailsToAddEdns}
+use Rattle.dnw_c_messages.specs.WriterCalls.{AddsOwned, FailsToAddItem, FailsToAddOwned, StaysAsItWas}
 use Rattle.dnw_c_messages.specs.declared.packed.PackedMessage.{PackedMessage}
+use Rattle.dnw_c_messages.specs.declared.halved.There.{There}
 use Rattle.dnw_c_messages.specs.declared.writing.LeftOut.{LeftOut}
 
 -- ---- items
@@ -47,9 +50,9 @@ last_octet = 67
 abbrev pub IsOctetOf : ℕ → Section → Type 0
 IsOctetOf octet s = (1 ≤ rank s) × ((octet ≡ rank s) ⊎ (octet ≡ rank s + 32) ⊎ (octet ≡ rank s + 128))
 
--- the section of a record by its octet; the last items are additional records
-abbrev pub section_of : ℕ → Section
-section_of octet = if octet % 4 == 1 then Sections.Answers else (if octet % 4 == 2 then Sections.Authorities else Sections.Additionals)
+-- It is before a record of a section, or before one of the last items, which are additional records.
+abbrev pub IsRecordOctet : ℕ → Section → Type 0
+IsRecordOctet octet s = IsOctetOf octet s ⊎ ((octet ≡ last_octet) × (s ≡ Sections.Additionals))
 
 -- The message has to have the record: by the word of the caller, or else by what the message is for. Whether a server of the section
 -- is left out before it.
@@ -98,10 +101,6 @@ IsNoItem d =
 
 -- ---- the order of items, and the octets that are held back for the last ones
 
--- the sum of two numbers of octets, if that is a number at all
-abbrev pub more_octets : ℕ → ℕ → ℕ
-more_octets held more = min (held + more) 18446744073709551615
-
 -- how many octets an item has, if its names are whole
 abbrev pub whole_item : RecordValue → ℕ
 whole_item x = encoded_size x.owner + 10 + x.len
@@ -111,8 +110,8 @@ abbrev pub ScansItem : ℕ → Decoder → Purpose → ℕ → Decoder → Purpo
 ScansItem octet d before size after needs =
     ((octet ≡ question_octet) × (name : List (List ℕ)) × (query_type : ℕ) × (class : ℕ) × TakesQuestion d name query_type class after
     × (needs ≡ with_asked query_type before))
-    ⊎ ((octet ≢ question_octet) × (IsNoOctet octet → ⊥) × (x : RecordValue) × TakesListed d octet x after × (size ≡ whole_item x)
-    × (needs ≡ holding (section_of octet) x before))
+    ⊎ ((s : Section) × IsRecordOctet octet s × (x : RecordValue) × TakesListed d octet x after × (size ≡ whole_item x)
+    × (needs ≡ holding s x before))
 
 abbrev pub held_with : ℕ → ℕ → ℕ → ℕ
 held_with held octet size = if octet == last_octet then more_octets held size else held
@@ -164,11 +163,12 @@ pub record AddsRecords (d : Decoder) (octet : ℕ) (s : Section) (w : WriterStat
   pub others : IsNoneOfSet after octet x
 
 -- One of them is not, for this reason.
-pub record FailsToAddRecords (d : Decoder) (octet : ℕ) (s : Section) (w : WriterState) (m : List ℕ) (v : WriterState) (failure : Failure) : Type 0 where
+pub record FailsToAddRecords (d : Decoder) (octet : ℕ) (s : Section) (w : WriterState) (m : List ℕ) (failure : Failure) : Type 0 where
   pub x : RecordValue
   pub next : Decoder
   pub first : TakesListed d octet x next
   pub at : Decoder
+  pub v : WriterState
   pub between : List ℕ
   pub run : AddsRun octet s x d w m at v between
   pub y : RecordValue
@@ -176,10 +176,6 @@ pub record FailsToAddRecords (d : Decoder) (octet : ℕ) (s : Section) (w : Writ
   pub takes : TakesListed at octet y after
   pub same : AreOfOneSet x y
   pub fails : FailsToAddListed s y v between failure
-
--- What was added is taken back, but for the hints, which no name has to rest on.
-abbrev pub IsTakenBack : WriterState → List ℕ → WriterState → WriterState → List ℕ → Type 0
-IsTakenBack w m v after new = (after ≡ record w { hints = v.hints }) × (take w.end new ≡ take w.end m)
 
 -- ---- messages
 
@@ -189,6 +185,29 @@ AddsHeldItem x before old after new = AddsListed Sections.Additionals x (for_las
 
 abbrev pub FailsToAddLastItem : RecordValue → WriterState → List ℕ → Failure → Type 0
 FailsToAddLastItem x before old failure = FailsToAddListed Sections.Additionals x (for_last (whole_item x) before) old failure
+
+-- The last item is an OPT record, which is to be padded: it is owned by the root (RFC 6891, section 6.1.2), and there is a block.
+abbrev pub is_padded : ℕ → RecordValue → Bool
+is_padded block x = nat_lt 0 block && ((type_code x.record_type == opt_code) && (encoded_size x.owner == 1))
+
+-- It is added as its fields say, with the option for padding: the message, with what comes after it, has a multiple of the block
+-- (RFC 7830; RFC 8467).
+abbrev pub AddsPadded : ℕ → RecordValue → WriterState → List ℕ → WriterState → List ℕ → Type 0
+AddsPadded block x =
+    AddsEdns (whole_item x) (class_code x.class) (x.ttl / 2 ^ 24 % 256) (x.ttl / 2 ^ 16 % 256) (x.ttl / 2 ^ 15 % 2 == 1) (data_octets x) block
+
+abbrev pub FailsToAddPadded : ℕ → RecordValue → WriterState → List ℕ → Failure → Type 0
+FailsToAddPadded block x =
+    FailsToAddEdns (whole_item x) (class_code x.class) (x.ttl / 2 ^ 24 % 256) (x.ttl / 2 ^ 16 % 256) (x.ttl / 2 ^ 15 % 2 == 1) (data_octets x) block
+
+-- One of the last items is added, padded or not.
+abbrev pub AddsEndItem : ℕ → RecordValue → WriterState → List ℕ → WriterState → List ℕ → Type 0
+AddsEndItem block x w m v n =
+    ((is_padded block x ≡ true) × AddsPadded block x w m v n) ⊎ ((is_padded block x ≡ false) × AddsHeldItem x w m v n)
+
+abbrev pub FailsToAddEndItem : ℕ → RecordValue → WriterState → List ℕ → Failure → Type 0
+FailsToAddEndItem block x w m failure =
+    ((is_padded block x ≡ true) × FailsToAddPadded block x w m failure) ⊎ ((is_padded block x ≡ false) × FailsToAddLastItem x w m failure)
 
 -- How far the writing of a list has come: the items that are left, what is written, and what is left out.
 pub record Progress : Type 0 where
@@ -205,50 +224,89 @@ progress d w m left = record { items = d; state = w; message = m; left = left }
 abbrev pub is_server_out : Section → LeftOut → Bool
 is_server_out s left = (left.closed == rank s) && left.servers
 
--- what is left out, with a record of a section too
-abbrev pub left_with : Purpose → Section → ℕ → RecordValue → LeftOut → LeftOut
-left_with needs s octet x left = record {
+-- the records of a section that are there: the offset in the list at which they begin, and how many there are
+abbrev pub what_is_there : Section → Progress → There
+what_is_there s p = record { start = if p.state.rank == rank s then p.left.start else p.items.index; count = count_in_header s p.message }
+
+-- how many pairs of records may be compared once more, to see if half of a set is there
+abbrev pub pairs_left : Section → LeftOut → ℕ
+pairs_left s left = if left.closed == rank s then left.pairs else most_pairs
+
+-- what is left out, with a record of a section too: something is missing if it has to be there, or if half of its set is
+abbrev pub left_with : Purpose → Section → ℕ → There → Bool → RecordValue → LeftOut → LeftOut
+left_with needs s octet there half x left = record {
   closed = rank s;
-  missing = left.missing || has_to_be_there needs s octet (is_server_out s left) x;
+  missing = left.missing || (has_to_be_there needs s octet (is_server_out s left) x || half);
   servers = is_server_out s left || is_server x;
+  pairs = pairs_left s left - there.count;
+  start = there.start;
 }
 
+-- No record is there.
+abbrev pub HasNoRecord : Decoder → Type 0
+HasNoRecord d = (x : RecordValue) (after : Decoder) → TakesRecord (advanced d 1) x after → ⊥
+
+-- One of so many records of the list halves the set of another that is left out, and none of them is the same; or no record is there.
+-- Whether one does before them.
+abbrev pub IsHalfListed : ℕ → Decoder → RecordValue → Bool → Bool → Type 0
+IsHalfListed zero d y before half = half ≡ before
+IsHalfListed (suc n) d y before half =
+    ((x : RecordValue) × (after : Decoder) × TakesRecord (advanced d 1) x after
+    × (((are_the_same x y ≡ true) × (half ≡ false)) ⊎ ((are_the_same x y ≡ false) × IsHalfListed n after y (before || halves x y) half)))
+    ⊎ (HasNoRecord d × (half ≡ true))
+
+-- Half of a set may be there, if the record is left out. So it is if more pairs would have to be compared than may be.
+abbrev pub IsHalved : ℕ → There → List ℕ → RecordValue → Bool → Type 0
+IsHalved pairs there list x half =
+    ((pairs < there.count) × (half ≡ true)) ⊎ ((there.count ≤ pairs) × IsHalfListed there.count (at_offset list there.start) x false half)
+
+-- A record is left out.
+abbrev pub IsLeftOut : Purpose → ℕ → Section → Progress → RecordValue → Progress → Type 0
+IsLeftOut needs octet s p x q =
+    (half : Bool) × IsHalved (pairs_left s p.left) (what_is_there s p) p.items.bytes x half
+    × (q.left ≡ left_with needs s octet (what_is_there s p) half x p.left)
+
 -- The next items of a list are written, or left out: a question, the records of a set, or one of the last items. Once a set has no
--- room, its first record is left out, and so are the later records of its section. Nothing is left out of a message that is never cut.
-pub data Goes (needs : Purpose) (p q : Progress) : Type 0 where
+-- room, the message is unchanged, its first record is left out, and so are the later records of its section. Nothing is left out of a
+-- message that is never cut.
+pub data Goes (needs : Purpose) (block : ℕ) (p q : Progress) : Type 0 where
   question : (name : List (List ℕ)) (query_type class : ℕ) → TakesQuestion p.items name query_type class q.items
       → AddsItem Sections.Queries (question_form slot_of name query_type class) p.state p.message q.state q.message
-      → q.left ≡ p.left → Goes needs p q
+      → q.left ≡ p.left → Goes needs block p q
   set : (octet : ℕ) (s : Section) → IsOctetOf octet s → rank s ≢ p.left.closed
-      → AddsRecords p.items octet s p.state p.message q.items q.state q.message → q.left ≡ p.left → Goes needs p q
-  no_room : (octet : ℕ) (s : Section) (x : RecordValue) (v : WriterState) → IsOctetOf octet s → rank s ≢ p.left.closed
-      → FailsToAddRecords p.items octet s p.state p.message v why.MessageTooLong → is_uncut needs ≡ false
-      → IsTakenBack p.state p.message v q.state q.message → TakesListed p.items octet x q.items
-      → q.left ≡ left_with needs s octet x p.left → Goes needs p q
+      → AddsRecords p.items octet s p.state p.message q.items q.state q.message
+      → q.left ≡ record p.left { start = (what_is_there s p).start } → Goes needs block p q
+  no_room : (octet : ℕ) (s : Section) (x : RecordValue) → IsOctetOf octet s → rank s ≢ p.left.closed
+      → FailsToAddRecords p.items octet s p.state p.message why.MessageTooLong → is_uncut needs ≡ false
+      → StaysAsItWas p.state p.message q.state q.message → TakesListed p.items octet x q.items
+      → IsLeftOut needs octet s p x q → Goes needs block p q
   left_out : (octet : ℕ) (s : Section) (x : RecordValue) → IsOctetOf octet s → rank s ≡ p.left.closed
       → TakesListed p.items octet x q.items → q.state ≡ p.state → q.message ≡ p.message
-      → q.left ≡ left_with needs s octet x p.left → Goes needs p q
+      → IsLeftOut needs octet s p x q → Goes needs block p q
   last : (x : RecordValue) → TakesListed p.items last_octet x q.items
-      → AddsHeldItem x p.state p.message q.state q.message → q.left ≡ p.left → Goes needs p q
+      → AddsEndItem block x p.state p.message q.state q.message → q.left ≡ p.left → Goes needs block p q
 
 -- They are not, for this reason, and then nothing is.
-abbrev pub FailsToGo : Purpose → Progress → Failure → Type 0
-FailsToGo needs p failure =
+abbrev pub FailsToGo : Purpose → ℕ → Progress → Failure → Type 0
+FailsToGo needs block p failure =
     (IsNoItem p.items × (failure ≡ why.BadItem))
     ⊎ ((name : List (List ℕ)) × (query_type : ℕ) × (class : ℕ) × (after : Decoder) × TakesQuestion p.items name query_type class after
     × FailsToAddItem Sections.Queries (question_past slot_of name) p.state p.message failure)
-    ⊎ ((octet : ℕ) × (s : Section) × (v : WriterState) × IsOctetOf octet s × (rank s ≢ p.left.closed)
-    × FailsToAddRecords p.items octet s p.state p.message v failure × (failure ≡ why.MessageTooLong → is_uncut needs ≡ true))
+    ⊎ ((octet : ℕ) × (s : Section) × IsOctetOf octet s × (rank s ≢ p.left.closed)
+    × FailsToAddRecords p.items octet s p.state p.message failure × (failure ≡ why.MessageTooLong → is_uncut needs ≡ true))
     ⊎ ((x : RecordValue) × (after : Decoder) × TakesListed p.items last_octet x after
-    × FailsToAddLastItem x p.state p.message failure)
+    × FailsToAddEndItem block x p.state p.message failure)
 
 -- Items are written one after another from the start of a list.
-pub data GoesFrom (needs : Purpose) (first : Progress) : Progress → Type 0 where
-  here : GoesFrom needs first first
-  further : (p q : Progress) → GoesFrom needs first p → Goes needs p q → GoesFrom needs first q
+pub data GoesFrom (needs : Purpose) (block : ℕ) (first : Progress) : Progress → Type 0 where
+  here : GoesFrom needs block first first
+  further : (p q : Progress) → GoesFrom needs block first p → Goes needs block p q → GoesFrom needs block first q
+
+abbrev pub nothing_left_out : LeftOut
+nothing_left_out = record { closed = 0; missing = false; servers = false; pairs = 0; start = 0 }
 
 abbrev pub progress_at : List ℕ → WriterState → List ℕ → Progress
-progress_at list w m = progress (at_offset list 0) w m (record { closed = 0; missing = false; servers = false })
+progress_at list w m = progress (at_offset list 0) w m nothing_left_out
 
 -- The message of a list begins: with its header, and the octets of the last items held back.
 abbrev pub Starts : List ℕ → ℕ → ℕ → ℕ → List ℕ → Purpose → Progress → Type 0
@@ -256,24 +314,24 @@ Starts list max_size id flags old needs p =
     (held : ℕ) × (w : WriterState) × (m : List ℕ) × ScansList list flags held needs × BeginsMessage id flags max_size old w m
     × (p ≡ progress_at list (record w { reserved = held }) m)
 
--- All items are written or left out. If a required one is left out, TC is set.
-abbrev pub WritesItems : List ℕ → ℕ → ℕ → ℕ → List ℕ → List ℕ → PackedMessage → Type 0
-WritesItems list max_size id flags old new written =
+-- All items are written or left out. If something is missing, TC is set.
+abbrev pub WritesItems : List ℕ → ℕ → ℕ → ℕ → ℕ → List ℕ → List ℕ → PackedMessage → Type 0
+WritesItems list max_size id flags block old new written =
     (header_size ≤ max_size) × (needs : Purpose) × (first : Progress) × (p : Progress) × Starts list max_size id flags old needs first
-    × GoesFrom needs first p
+    × GoesFrom needs block first p
     × (p.items.index ≡ length list) × (new ≡ (if p.left.missing then cut_off p.message else p.message))
     × (written ≡ record { len = p.state.end; truncated = is_cut new })
 
 -- The list is none, the buffer or the maximum is too short for a header, or an item fails.
-abbrev pub FailsToWriteList : List ℕ → ℕ → ℕ → ℕ → List ℕ → Failure → Type 0
-FailsToWriteList list max_size id flags old failure =
+abbrev pub FailsToWriteList : List ℕ → ℕ → ℕ → ℕ → ℕ → List ℕ → Failure → Type 0
+FailsToWriteList list max_size id flags block old failure =
     (IsBadList list flags × (failure ≡ why.BadItem))
     ⊎ ((length old < header_size) × (failure ≡ why.NoRoom))
     ⊎ ((header_size ≤ length old) × (max_size < header_size) × (failure ≡ why.MessageTooLong))
-    ⊎ ((needs : Purpose) × (first : Progress) × (p : Progress) × Starts list max_size id flags old needs first × GoesFrom needs first p
-    × FailsToGo needs p failure)
+    ⊎ ((needs : Purpose) × (first : Progress) × (p : Progress) × Starts list max_size id flags old needs first × GoesFrom needs block first p
+    × FailsToGo needs block p failure)
 
 -- A message is written, or it is not for such a reason.
-abbrev pub WritesListOr : List ℕ → ℕ → ℕ → ℕ → List ℕ → List ℕ → Result PackedMessage Failure → Type 0
-WritesListOr list max_size id flags old new result =
-    MatchResult result (WritesItems list max_size id flags old new) (FailsToWriteList list max_size id flags old)
+abbrev pub WritesListOr : List ℕ → ℕ → ℕ → ℕ → ℕ → List ℕ → List ℕ → Result PackedMessage Failure → Type 0
+WritesListOr list max_size id flags block old new result =
+    MatchResult result (WritesItems list max_size id flags block old new) (FailsToWriteList list max_size id flags block old)

@@ -12,14 +12,17 @@ use dnw_c_base::results::report;
 use dnw_message_read::edns::{EdnsError, EdnsRef};
 use dnw_message_read::message::MessageRef;
 use dnw_message_read::response_code::ResponseCode;
+use dnw_message_writer::reply::takes_records;
 
-/// What a message says by EDNS, and its response code. The octets of its options are so many from an offset on.
+/// What a message says by EDNS, its response code, and if a message with that takes records. The octets of its options are so many
+/// from an offset on.
 #[repr(C)]
 #[derive(Clone, Copy)]
 pub struct ReadEdns {
     pub is_present: bool,
     pub dnssec_ok: bool,
     pub version: u8,
+    pub takes_records: bool,
     pub max_payload: u16,
     pub response_code: u16,
     pub options_offset: usize,
@@ -63,24 +66,32 @@ fn said(code: ResponseCode, edns: &Option<EdnsRef<'_>>) -> ReadEdns
     ensures { result ≡ read_edns edns.now (response_of_code (response_code code % 16 + high_bits edns.now * 2 ^ 4)) }
 {
     match edns {
-        Some(edns) => ReadEdns {
-            is_present: true,
-            dnssec_ok: edns.dnssec_ok(),
-            version: edns.version(),
-            max_payload: edns.max_payload(),
-            response_code: whole_code(code, edns.rcode_high()),
-            options_offset: edns.options_offset(),
-            options_len: edns.options_len(),
-        },
-        None => ReadEdns {
-            is_present: false,
-            dnssec_ok: false,
-            version: 0,
-            max_payload: MIN_PAYLOAD,
-            response_code: whole_code(code, 0),
-            options_offset: 0,
-            options_len: 0,
-        },
+        Some(edns) => {
+            let response_code = whole_code(code, edns.rcode_high());
+            ReadEdns {
+                is_present: true,
+                dnssec_ok: edns.dnssec_ok(),
+                version: edns.version(),
+                takes_records: takes_records(response_code),
+                max_payload: edns.max_payload(),
+                response_code,
+                options_offset: edns.options_offset(),
+                options_len: edns.options_len(),
+            }
+        }
+        None => {
+            let response_code = whole_code(code, 0);
+            ReadEdns {
+                is_present: false,
+                dnssec_ok: false,
+                version: 0,
+                takes_records: takes_records(response_code),
+                max_payload: MIN_PAYLOAD,
+                response_code,
+                options_offset: 0,
+                options_len: 0,
+            }
+        }
     }
 }
 

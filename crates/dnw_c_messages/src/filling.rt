@@ -52,7 +52,7 @@ fn fill(
 }
 
 /// Returns a decoder of a list, at an offset of it.
-fn list_at(items: &[u8], start: usize) -> Option<BinDecoder<'_>>
+pub(crate) fn list_at(items: &[u8], start: usize) -> Option<BinDecoder<'_>>
     ensures some { IfSome result (λ d. (d ≡ at_offset items.now start) × (start ≤ length items.now)) }
     ensures none { IfNone result (length items.now < start) }
 {

@@ -14,6 +14,8 @@ pub mod edns;
 pub mod fields;
 /// Records of a list, as many as a message has room for.
 pub mod filling;
+/// Sets of records of a list, of which a part is left out.
+mod halved;
 /// Lists of the items of a message.
 mod listed;
 /// Whole messages.

@@ -1,10 +1,10 @@
 //! Lists of the items of a message.
-ghost use Rattle.std.specs.Prelude.{◌≡◌, ◌≢◌, ◌<◌, ◌↔◌, length, IfOk, IfErr, IfSome, IfNone, IsTrue};
+ghost use Rattle.std.specs.Prelude.{◌≡◌, ◌≢◌, ◌<◌, length, IfOk, IfErr, IfSome, IfNone};
 ghost use Rattle.dnw_base.specs.Decoder.{advanced};
 ghost use Rattle.dnw_record.specs.Records.{TakesRecord};
 ghost use Rattle.dnw_message_writer.specs.Copying.{AreOfOneSet};
 ghost use Rattle.dnw_c_base.specs.declared.failure.Failure.TheVariants.{BadItem};
-ghost use Rattle.dnw_c_messages.specs.ListCalls.{BeginsWithOctet, IsBadList, IsNoItem, IsNoneOfSet, IsNoOctet, IsOctetOf, LacksListed, ScansItem, ScansList, TakesListed, TakesQuestion, held_with, place_of, question_octet, section_of, whole_item};
+ghost use Rattle.dnw_c_messages.specs.ListCalls.{BeginsWithOctet, IsBadList, IsNoItem, IsNoneOfSet, IsNoOctet, IsOctetOf, IsRecordOctet, LacksListed, ScansItem, ScansList, TakesListed, TakesQuestion, held_with, place_of, question_octet, whole_item};
 
 use dnw_base::decoder::BinDecoder;
 use dnw_c_base::failure::Failure;
@@ -77,12 +77,30 @@ fn scan_item<'l>(
         purpose.ask(question.query_type);
         return Ok(0);
     }
-    if is_no_octet(octet) {
-        return Err(Failure::BadItem);
+    if octet == LAST {
+        return scan_record(Section::Additionals, octet, decoder, purpose);
     }
+    let Some(section) = section_after(octet) else {
+        return Err(Failure::BadItem);
+    };
+    scan_record(section, octet, decoder, purpose)
+}
+
+/// Reads past a record of a section, which is one more of a message, and returns how many octets it has.
+fn scan_record<'l>(
+    section: Section,
+    octet: u8,
+    decoder: &mut BinDecoder<'l>,
+    purpose: &mut Purpose<'l>,
+) -> Result<usize, Failure>
+    requires begins { BeginsWithOctet decoder.old octet }
+    requires octet { IsRecordOctet octet section }
+    ensures ok { IfOk result (λ size. ScansItem octet decoder.old purpose.old size decoder.new purpose.new) }
+    ensures err { IfErr result (λ failure. LacksListed decoder.old × (failure ≡ BadItem)) }
+{
     let record = read_record(decoder)?;
     let size = whole_item(&record);
-    purpose.take(section_of(octet), record);
+    purpose.take(section, record);
     Ok(size)
 }
 
@@ -157,25 +175,7 @@ fn place_of(octet: u8) -> u8
     if octet == LAST { 4 } else { octet % 4 }
 }
 
-/// Returns `true` if the octet is before no item.
-fn is_no_octet(octet: u8) -> bool
-    ensures { IsTrue result ↔ IsNoOctet octet }
-{
-    3 < octet && octet != LAST && (octet < 33 || 35 < octet) && (octet < 129 || 131 < octet)
-}
-
-/// Returns the section of a record by the octet before it. The last items are additional records.
-fn section_of(octet: u8) -> Section
-    ensures { result ≡ section_of octet }
-{
-    match octet % 4 {
-        1 => Section::Answers,
-        2 => Section::Authorities,
-        _ => Section::Additionals,
-    }
-}
-
-/// Returns the section of a record by the octet before it.
+/// Returns the section of a record by the octet before it, if that is not one of the last items.
 pub(crate) fn section_after(octet: u8) -> Option<Section>
     ensures some { IfSome result (IsOctetOf octet) }
     ensures none { IfNone result (octet ≢ question_octet → octet ≢ 67 → IsNoOctet octet) }

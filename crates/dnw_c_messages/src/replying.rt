@@ -7,7 +7,7 @@ use crate::edns::ReadEdns;
 use crate::writer::of_write;
 use dnw_c_base::failure::Failure;
 use dnw_c_base::results::report;
-use dnw_message_writer::reply::{Asked, ReplyError, reply_code};
+use dnw_message_writer::reply::{Asked, ReplyError, reply_code, takes_records};
 use dnw_message_writer::state::WriterState;
 
 /// Begins the reply to a request: puts its header and its question, and what the reply needs of EDNS.
@@ -50,12 +50,14 @@ fn reply(
 fn read_asked(code: u16, asked: Asked) -> ReadEdns
     ensures { result ≡ read_asked code asked }
 {
+    let response_code = reply_code(asked, code);
     ReadEdns {
         is_present: asked.has_edns,
         dnssec_ok: asked.dnssec_ok,
         version: 0,
+        takes_records: takes_records(response_code),
         max_payload: asked.max_payload,
-        response_code: reply_code(asked, code),
+        response_code,
         options_offset: 0,
         options_len: 0,
     }

@@ -127,7 +127,7 @@ fn add_set_to(
 }
 
 /// Adds an `OPT` record.
-fn add_edns(
+pub(crate) fn add_edns(
     message: &mut [u8],
     held: usize,
     max_payload: u16,

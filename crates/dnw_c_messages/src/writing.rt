@@ -13,17 +13,21 @@ ghost use Rattle.dnw_message_writer.specs.declared.section.Section.TheVariants a
 ghost use Rattle.dnw_message_writer.specs.declared.state.WriterState.{WriterState};
 ghost use Rattle.dnw_c_base.specs.Results.{Returns};
 ghost use Rattle.dnw_c_base.specs.declared.failure.Failure.TheVariants.{BadItem};
-ghost use Rattle.dnw_c_messages.specs.ListCalls.{AddsHeldItem, AddsListed, AddsRecords, BeginsWithOctet, FailsToAddLastItem, FailsToAddListed, FailsToAddRecords, FailsToGo, Goes, GoesFrom, IsNoItem, IsOctetOf, LacksListed, Progress, TakesListed, TakesQuestion, WritesListOr, has_to_be_there, is_server_out, last_octet, left_with, progress, progress_at, question_octet};
+ghost use Rattle.dnw_c_messages.specs.ListCalls.{AddsEndItem, AddsListed, AddsPadded, AddsRecords, BeginsWithOctet, FailsToAddEndItem, FailsToAddListed, FailsToAddPadded, FailsToAddRecords, FailsToGo, Goes, GoesFrom, IsHalved, IsNoItem, IsOctetOf, LacksListed, Progress, TakesListed, TakesQuestion, WritesListOr, has_to_be_there, is_padded, is_server_out, last_octet, left_with, pairs_left, progress, progress_at, question_octet, what_is_there};
 ghost use Rattle.dnw_c_messages.specs.WriterCalls.{FailsToAddItem, StaysAsItWas};
+ghost use Rattle.dnw_c_messages.specs.declared.writing.LeftOut.{LeftOut};
 
+use crate::halved::{MOST_PAIRS, There, is_halved};
 use crate::listed::{
     LAST, OPTIONAL, QUESTION, REQUIRED, again, next_of_set, octet_at, read_question, read_record,
     scan_list, section_after, whole_item,
 };
 use crate::packed::{PackedMessage, is_cut};
+use crate::sets::add_edns;
 use crate::writer::{add_owned, begin, of_write};
 use dnw_base::decoder::BinDecoder;
 use dnw_base::limits::MAX_NAME;
+use dnw_base::record_type::RecordType;
 use dnw_c_base::failure::Failure;
 use dnw_c_base::results::report;
 use dnw_message_writer::hints::SLOTS;
@@ -33,38 +37,33 @@ use dnw_message_writer::standing::FIRST_ITEM;
 use dnw_message_writer::state::WriterState;
 use dnw_record::record_ref::RecordRef;
 
-/// What is left out of a message: how many sections are before that of the last set that had no room, or 0 if each had; if a record
-/// is left out that the message has to have; and if a server of that section is.
+/// What is left out of a message: how many sections are before that of the last set that had no room, or 0 if each had; if something
+/// is missing that the message has to have; if a server of that section is left out; and how many pairs of its records may still be
+/// compared. And the offset in the list at which the records of the section begin that is being written.
 #[derive(Clone, Copy)]
 pub(crate) struct LeftOut {
     closed: u8,
     missing: bool,
     servers: bool,
+    pairs: u16,
+    start: usize,
 }
 
-/// What is known of a message before a set.
-#[derive(Clone, Copy)]
-struct Before {
-    end: usize,
-    owner: u16,
-    rank: u8,
-    has_opt: u8,
-    count: [u8; 2],
-}
-
-/// Puts a message of the items of a list. Sets of records that have no room are left out of a response, but for one to a transfer.
+/// Puts a message of the items of a list. Sets of records that have no room are left out of a response, but for one to a transfer. If
+/// `block` is not 0, its `OPT` record pads it to a multiple of so many octets.
 #[unsafe(no_mangle)]
 pub extern "C" fn dnw_message_write(
     items: &[u8],
     max_size: usize,
     id: u16,
     flags: u16,
+    block: u16,
     message: &mut [u8],
     written: &mut PackedMessage,
 ) -> u32
-    ensures { Returns (WritesListOr items.now max_size id flags message.old message.new) written.old written.new result }
+    ensures { Returns (WritesListOr items.now max_size id flags block message.old message.new) written.old written.new result }
 {
-    report(write(items, max_size, id, flags, message), written)
+    report(write(items, max_size, id, flags, block, message), written)
 }
 
 /// Puts a message of the items of a list.
@@ -73,9 +72,10 @@ fn write(
     max_size: usize,
     id: u16,
     flags: u16,
+    block: u16,
     message: &mut [u8],
 ) -> Result<PackedMessage, Failure>
-    ensures { WritesListOr items.now max_size id flags message.old message.new result }
+    ensures { WritesListOr items.now max_size id flags block message.old message.new result }
 {
     let scan = scan_list(items, flags)?;
     if message.len() < FIRST_ITEM {
@@ -95,7 +95,7 @@ fn write(
     };
     begin(message, max_size, id, flags, &mut writer)?;
     writer.reserved = scan.held;
-    let missing = write_items(items, &scan.purpose, message, &mut writer)?;
+    let missing = write_items(items, &scan.purpose, block, message, &mut writer)?;
     finish(message, missing);
     let truncated = is_cut(message);
     Ok(PackedMessage {
@@ -108,23 +108,27 @@ fn write(
 fn write_items(
     items: &[u8],
     purpose: &Purpose<'_>,
+    block: u16,
     message: &mut [u8],
     writer: &mut WriterState,
 ) -> Result<bool, Failure>
-    ensures ok { IfOk result (λ missing. (d : Decoder) × (closed : ℕ) × (servers : Bool)
-        × GoesFrom purpose.now (progress_at items.now writer.old message.old) (progress d writer.new message.new (record { closed = closed; missing = missing; servers = servers }))
-        × (d.index ≡ length items.now)) }
-    ensures err { IfErr result (λ failure. (p : Progress) × GoesFrom purpose.now (progress_at items.now writer.old message.old) p
-        × FailsToGo purpose.now p failure) }
+    requires { 12 ≤ length message.old }
+    ensures ok { IfOk result (λ missing. (d : Decoder) × (left : LeftOut)
+        × GoesFrom purpose.now block (progress_at items.now writer.old message.old) (progress d writer.new message.new left)
+        × (missing ≡ left.missing) × (d.index ≡ length items.now)) }
+    ensures err { IfErr result (λ failure. (p : Progress) × GoesFrom purpose.now block (progress_at items.now writer.old message.old) p
+        × FailsToGo purpose.now block p failure) }
 {
     let mut decoder = BinDecoder::new(items);
     let mut left = LeftOut {
         closed: 0,
         missing: false,
         servers: false,
+        pairs: 0,
+        start: 0,
     };
     'list: while !decoder.is_empty() {
-        write_next(purpose, &mut decoder, message, writer, &mut left)?;
+        write_next(purpose, block, &mut decoder, message, writer, &mut left)?;
     }
     Ok(left.missing)
 }
@@ -132,47 +136,87 @@ fn write_items(
 /// Writes the next items of a list: a question, the records of a set, or one of the last items.
 fn write_next(
     purpose: &Purpose<'_>,
+    block: u16,
     decoder: &mut BinDecoder<'_>,
     message: &mut [u8],
     writer: &mut WriterState,
     left: &mut LeftOut,
 ) -> Result<(), Failure>
-    requires { decoder.old.index < length decoder.old.bytes }
-    ensures ok { OnOk result (Goes purpose.now (progress decoder.old writer.old message.old left.old) (progress decoder.new writer.new message.new left.new)) }
-    ensures err { IfErr result (FailsToGo purpose.now (progress decoder.old writer.old message.old left.old)) }
+    requires left { decoder.old.index < length decoder.old.bytes }
+    requires long { 12 ≤ length message.old }
+    ensures ok { OnOk result (Goes purpose.now block (progress decoder.old writer.old message.old left.old) (progress decoder.new writer.new message.new left.new)) }
+    ensures err { IfErr result (FailsToGo purpose.now block (progress decoder.old writer.old message.old left.old)) }
 {
     let octet = octet_at(decoder);
     if octet == QUESTION {
         return write_question(decoder, message, writer);
     }
     if octet == LAST {
-        return write_last(decoder, message, writer);
+        return write_last(block, decoder, message, writer);
     }
     let Some(section) = section_after(octet) else {
         return Err(Failure::BadItem);
     };
+    let there = what_is_there(section, decoder, message, writer, *left);
     if section.rank() != left.closed {
-        return write_set(purpose, octet, section, decoder, message, writer, left);
+        return write_set(
+            purpose, block, octet, section, there, decoder, message, writer, left,
+        );
     }
-    leave_out(purpose, octet, section, decoder, left)
+    leave_out(purpose, octet, section, there, decoder, left)
 }
 
-/// Passes a record of a list, which is left out.
+/// Returns what of a section is there.
+fn what_is_there(
+    section: Section,
+    decoder: &BinDecoder<'_>,
+    message: &[u8],
+    writer: &WriterState,
+    left: LeftOut,
+) -> There
+    requires { 12 ≤ length message.now }
+    ensures { result ≡ what_is_there section (progress decoder.now writer.now message.now left) }
+{
+    let start = if writer.rank == section.rank() {
+        left.start
+    } else {
+        decoder.index()
+    };
+    let count = u16::from_be_bytes(two_at(message, 4 + 2 * usize::from(section.rank())));
+    There { start, count }
+}
+
+/// Passes a record of a list, which is left out. Something is missing if it has to be there, or if half of its set is.
 fn leave_out(
     purpose: &Purpose<'_>,
     octet: u8,
     section: Section,
+    there: There,
     decoder: &mut BinDecoder<'_>,
     left: &mut LeftOut,
 ) -> Result<(), Failure>
     requires { BeginsWithOctet decoder.old octet }
-    ensures ok { OnOk result ((x : RecordValue) × TakesListed decoder.old octet x decoder.new
-        × (left.new ≡ left_with purpose.now section octet x left.old)) }
+    ensures ok { OnOk result ((x : RecordValue) × (half : Bool) × TakesListed decoder.old octet x decoder.new
+        × IsHalved (pairs_left section left.old) there decoder.old.bytes x half
+        × (left.new ≡ left_with purpose.now section octet there half x left.old)) }
     ensures err { IfErr result (λ failure. LacksListed decoder.old × (failure ≡ BadItem)) }
 {
+    let list = decoder.message();
     let record = read_record(decoder)?;
-    *left = left_with(purpose, section, octet, &record, *left);
+    let half = is_halved(pairs_left(section, *left), there, list, &record);
+    *left = left_with(purpose, section, octet, there, half, &record, *left);
     Ok(())
+}
+
+/// Returns how many pairs of records of a section may be compared once more.
+fn pairs_left(section: Section, left: LeftOut) -> u16
+    ensures { result ≡ pairs_left section left }
+{
+    if left.closed == section.rank() {
+        left.pairs
+    } else {
+        MOST_PAIRS
+    }
 }
 
 /// Writes a question.
@@ -201,18 +245,22 @@ fn write_question(
 
 /// Writes one of the last items.
 fn write_last(
+    block: u16,
     decoder: &mut BinDecoder<'_>,
     message: &mut [u8],
     writer: &mut WriterState,
 ) -> Result<(), Failure>
     requires { BeginsWithOctet decoder.old last_octet }
     ensures ok { OnOk result ((x : RecordValue) × TakesListed decoder.old last_octet x decoder.new
-        × AddsHeldItem x writer.old message.old writer.new message.new) }
+        × AddsEndItem block x writer.old message.old writer.new message.new) }
     ensures err { IfErr result (λ failure. (IsNoItem decoder.old × (failure ≡ BadItem))
         ⊎ ((x : RecordValue) × (after : Decoder) × TakesListed decoder.old last_octet x after
-        × FailsToAddLastItem x writer.old message.old failure)) }
+        × FailsToAddEndItem block x writer.old message.old failure)) }
 {
     let record = read_record(decoder)?;
+    if is_padded(block, &record) {
+        return add_padded(block, &record, message, writer);
+    }
     writer.forget_names(whole_item(&record));
     match add_listed(Section::Additionals, &record, message, writer) {
         Ok(()) => Ok(()),
@@ -220,42 +268,79 @@ fn write_last(
     }
 }
 
-/// Writes the records of a set. If they have no room, those that were written are taken back, and the first is left out, and with it
-/// the later records of its section; or it fails if the message is never cut.
+/// Returns `true` for an `OPT` record that is to be padded.
+fn is_padded(block: u16, item: &RecordRef<'_>) -> bool
+    ensures { result ≡ is_padded block item.now }
+{
+    block > 0
+        && (item.record_type().code() == RecordType::OPT.code() && item.owner().encoded_len() == 1)
+}
+
+/// Adds an `OPT` record, with the option for padding.
+fn add_padded(
+    block: u16,
+    item: &RecordRef<'_>,
+    message: &mut [u8],
+    writer: &mut WriterState,
+) -> Result<(), Failure>
+    ensures ok { OnOk result (AddsPadded block item.now writer.old message.old writer.new message.new) }
+    ensures err { IfErr result (FailsToAddPadded block item.now writer.old message.old) }
+{
+    let held = whole_item(item);
+    let max_payload = u16::from(item.class());
+    let ttl = item.ttl();
+    let added = add_edns(
+        message,
+        held,
+        max_payload,
+        ((ttl >> 24) % 256) as u8,
+        ((ttl >> 16) % 256) as u8,
+        (ttl >> 15) % 2 == 1,
+        item.rdata(),
+        block,
+        writer,
+    );
+    match added {
+        Ok(()) => Ok(()),
+        Err(failure) => Err(failure),
+    }
+}
+
+/// Writes the records of a set. If they have no room, those that were written are taken back, as if the set had not been tried, and
+/// the first is left out, and with it the later records of its section; or it fails if the message is never cut.
 fn write_set(
     purpose: &Purpose<'_>,
+    block: u16,
     octet: u8,
     section: Section,
+    there: There,
     decoder: &mut BinDecoder<'_>,
     message: &mut [u8],
     writer: &mut WriterState,
     left: &mut LeftOut,
 ) -> Result<(), Failure>
+    requires there { there ≡ what_is_there section (progress decoder.old writer.old message.old left.old) }
     requires begins { BeginsWithOctet decoder.old octet }
     requires octet { IsOctetOf octet section }
     requires open { rank section ≢ left.old.closed }
-    ensures ok { OnOk result (Goes purpose.now (progress decoder.old writer.old message.old left.old) (progress decoder.new writer.new message.new left.new)) }
-    ensures err { IfErr result (FailsToGo purpose.now (progress decoder.old writer.old message.old left.old)) }
+    ensures ok { OnOk result (Goes purpose.now block (progress decoder.old writer.old message.old left.old) (progress decoder.new writer.new message.new left.new)) }
+    ensures err { IfErr result (FailsToGo purpose.now block (progress decoder.old writer.old message.old left.old)) }
 {
-    let before = Before {
-        end: writer.end,
-        owner: writer.owner,
-        rank: writer.rank,
-        has_opt: writer.has_opt,
-        count: two_at(message, 4 + 2 * usize::from(section.rank())),
-    };
+    let saved = *writer;
+    let count = two_at(message, 4 + 2 * usize::from(section.rank()));
     let mut ahead = again(decoder);
     match add_records(octet, section, &mut ahead, message, writer) {
         Ok(()) => {
             *decoder = ahead;
+            left.start = there.start;
             Ok(())
         }
         Err(Failure::MessageTooLong) => {
             if purpose.is_uncut() {
                 return Err(Failure::MessageTooLong);
             }
-            take_back(section, before, message, writer);
-            leave_out(purpose, octet, section, decoder, left)
+            take_back(section, count, &saved, message, writer);
+            leave_out(purpose, octet, section, there, decoder, left)
         }
         Err(failure) => Err(failure),
     }
@@ -272,10 +357,9 @@ fn add_records(
     requires { BeginsWithOctet decoder.old octet }
     ensures ok { OnOk result (AddsRecords decoder.old octet section writer.old message.old decoder.new writer.new message.new) }
     ensures err { IfErr result (λ failure.
-        FailsToAddRecords decoder.old octet section writer.old message.old writer.new failure
+        FailsToAddRecords decoder.old octet section writer.old message.old failure
         ⊎ ((failure ≡ BadItem) × LacksListed decoder.old)) }
     ensures kept { OnErr result (KeptCount section (take writer.old.end message.old) (take writer.old.end message.new)) }
-    ensures state { OnErr result ((writer.new.max_size ≡ writer.old.max_size) × (writer.new.reserved ≡ writer.old.reserved)) }
 {
     let first = read_record(decoder)?;
     let added = add_listed(section, &first, message, writer);
@@ -322,19 +406,22 @@ pub(crate) fn add_listed(
     }
 }
 
-/// Takes back what was added of a set. The hints stay: each is checked when it is used.
-fn take_back(section: Section, before: Before, message: &mut [u8], writer: &mut WriterState)
-    ensures state { writer.new ≡ record writer.old { end = before.end; owner = before.owner; rank = before.rank; has_opt = before.has_opt } }
-    ensures count { ((12 ≤ before.end) × (12 ≤ length message.old) × (message.new ≡ put_at message.old (offset_of_count section) before.count))
-        ⊎ (((before.end < 12) ⊎ (length message.old < 12)) × (message.new ≡ message.old)) }
+/// Takes back what was added of a set to a message that had this state and this count.
+fn take_back(
+    section: Section,
+    count: [u8; 2],
+    saved: &WriterState,
+    message: &mut [u8],
+    writer: &mut WriterState,
+)
+    ensures state { writer.new ≡ saved.now }
+    ensures count { ((12 ≤ saved.now.end) × (12 ≤ length message.old) × (message.new ≡ put_at message.old (offset_of_count section) count))
+        ⊎ (((saved.now.end < 12) ⊎ (length message.old < 12)) × (message.new ≡ message.old)) }
 {
-    writer.end = before.end;
-    writer.owner = before.owner;
-    writer.rank = before.rank;
-    writer.has_opt = before.has_opt;
-    if before.end >= FIRST_ITEM && message.len() >= FIRST_ITEM {
+    *writer = *saved;
+    if saved.end >= FIRST_ITEM && message.len() >= FIRST_ITEM {
         let at = 4 + 2 * usize::from(section.rank());
-        message[at..at + 2].copy_from_slice(&before.count);
+        message[at..at + 2].copy_from_slice(&count);
     }
 }
 
@@ -354,16 +441,20 @@ fn left_with(
     purpose: &Purpose<'_>,
     section: Section,
     octet: u8,
+    there: There,
+    half: bool,
     item: &RecordRef<'_>,
     left: LeftOut,
 ) -> LeftOut
-    ensures { result ≡ left_with purpose.now section octet item.now left }
+    ensures { result ≡ left_with purpose.now section octet there half item.now left }
 {
     let out = is_server_out(section, left);
     LeftOut {
         closed: section.rank(),
-        missing: left.missing || has_to_be_there(purpose, section, octet, out, item),
+        missing: left.missing || (has_to_be_there(purpose, section, octet, out, item) || half),
         servers: out || is_server(item),
+        pairs: pairs_left(section, left).saturating_sub(there.count),
+        start: there.start,
     }
 }
 

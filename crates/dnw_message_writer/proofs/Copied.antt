@@ -1,18 +1,18 @@
 -- A message that was written again holds the items of the other.
-use Rattle.std.proofs.Common.{◌≡◌, ℕ, suc, ◌≤◌, ◌&&◌, Bool, true, false, true≢false, if◌then◌else◌, List, [], ◌∷◌, ◌++◌, drop, length, refl, sym, ap, ◌∙◌, subst, append_assoc, drop_at, arith}
+use Rattle.std.proofs.Common.{◌≡◌, ℕ, suc, ◌≤◌, ◌&&◌, ◌||◌, Bool, true, false, true≢false, if◌then◌else◌, List, [], ◌∷◌, ◌++◌, drop, length, take, refl, sym, ap, ◌∙◌, subst, append_assoc, drop_at, arith}
 use Rattle.std.specs.List.{AllZip}
-use Rattle.std.proofs.lemmas.List.{append-nil}
+use Rattle.std.proofs.lemmas.List.{append-nil, take_at}
 use Rattle.dnw_base.specs.DnsClasses.{class_code}
 use Rattle.dnw_base.specs.RecordTypes.{type_code}
 use Rattle.dnw_record.specs.Records.{RecordValue}
 use Rattle.dnw_message_read.specs.Headers.{flags_of}
 use Rattle.dnw_message_read.specs.Messages.{MessageValue, QueryValue}
 use Rattle.dnw_message_writer.specs.Contents.{AddedItems, AddedQuestion, AddedRecord, HoldsItems, cut_flags, no_items, with_question, with_records}
-use Rattle.dnw_message_writer.specs.Copying.{CopiesSets, Misses, copied_form, held_from, held_in, left_out_of, no_room, none_left, one_set, query_form, sets_of}
-use Rattle.dnw_message_writer.specs.CopyLaws.{AreItemsOf, AreTheFirst, CopiesHold, IsCopiedQuestion, IsCopiedRecord}
+use Rattle.dnw_message_writer.specs.Copying.{CopiesSets, Misses, copied_form, held_in, lacks_of, lacks_some, left_out_of, no_room, none_left, one_set, query_form, section_records, sets_of, there_of}
+use Rattle.dnw_message_writer.specs.CopyLaws.{AreItemsOf, AreTheFirst, CopiesHold, IsCopiedQuestion, IsCopiedRecord, is_missing_of}
 use Rattle.dnw_message_writer.specs.Hints.{slot_of}
 use Rattle.dnw_message_writer.specs.Items.{ItemForm}
-use Rattle.dnw_message_writer.specs.Needs.{has_left_required, is_uncut, purpose_of}
+use Rattle.dnw_message_writer.specs.Needs.{has_half, has_required, is_uncut, purpose_of}
 use Rattle.dnw_message_writer.specs.Sections.{rank}
 use Rattle.dnw_message_writer.specs.Sets.{AddsSet, cut_off}
 use Rattle.dnw_message_writer.specs.States.{AddsItem, count_in_header, for_last}
@@ -136,34 +136,42 @@ zip_size [] (r ∷ rs) none = absurd none
 zip_size (x ∷ xs) [] none = absurd none
 zip_size (x ∷ xs) (r ∷ rs) (one, more) = ap suc (zip_size xs rs more)
 
--- those after as many as the message has
-left_are : (s : Section) (xs ys : List RecordValue) (rs : List AddedRecord) (m : List ℕ) (first : AreTheFirst ys rs) → sets_of s xs ≡ ys
-    → count_in_header s m ≡ length rs → left_out_of s xs m ≡ first.left
-left_are s xs ys rs m first of_section counted =
-    let size : length first.copied ≡ count_in_header s m = zip_size first.copied rs first.copies ∙ sym counted in
-    ap (drop (count_in_header s m)) (of_section ∙ first.are) ∙ drop_at first.copied first.left (count_in_header s m) size
+-- of a section something is missing, by what is there and what is left out
+lacks_as : (s : Section) (x : MessageValue) (ys : List RecordValue) (rs : List AddedRecord) (m : List ℕ) (first : AreTheFirst ys rs)
+    → sets_of s (section_records s x) ≡ ys → count_in_header s m ≡ length rs → lacks_of s x m ≡ is_missing_of s (purpose_of x) first.copied first.left
+lacks_as s x ys rs m first of_section counted =
+    let n = count_in_header s m in
+    let size : length first.copied ≡ n = zip_size first.copied rs first.copies ∙ sym counted in
+    let left : left_out_of s (section_records s x) m ≡ first.left = ap (drop n) (of_section ∙ first.are) ∙ drop_at first.copied first.left n size in
+    let there : there_of s (section_records s x) m ≡ first.copied = ap (take n) (of_section ∙ first.are) ∙ take_at first.copied first.left n size in
+    let lacks : ℕ → List RecordValue → List RecordValue → Bool = λ k copied out. has_required s (purpose_of x) false out || has_half k copied out in
+    ap (λ k. lacks k (there_of s (section_records s x) m) (left_out_of s (section_records s x) m)) (sym size)
+    ∙ (ap (λ copied. lacks (length first.copied) copied (left_out_of s (section_records s x) m)) there ∙ ap (lacks (length first.copied) first.copied) left)
 
--- a record is missing exactly if one is left out that the message has to have
-missing_as : (x : MessageValue) (m : List ℕ) (an us ds : List RecordValue) (all_answers all_authorities all_additionals missing : Bool)
+-- whether something is missing, if it may be
+all_lack : (x : MessageValue) (m : List ℕ) (a u d missing : Bool) → lacks_of Answers x m ≡ a → lacks_of Authorities x m ≡ u → lacks_of Additionals x m ≡ d
+    → missing ≡ lacks_some x m → missing ≡ (a || (u || d))
+all_lack x m a u d missing a_is u_is d_is is =
+    is ∙ (ap (λ b. b || (lacks_of Authorities x m || lacks_of Additionals x m)) a_is
+    ∙ (ap (λ b. a || (b || lacks_of Additionals x m)) u_is ∙ ap (λ b. a || (u || b)) d_is))
+
+-- something is missing exactly if a record is left out that the message has to have, or half of a set
+missing_as : (x : MessageValue) (m : List ℕ) (ac an uc us dc ds : List RecordValue) (all_answers all_authorities all_additionals missing : Bool)
     → (all_answers ≡ true → an ≡ []) → (all_authorities ≡ true → us ≡ []) → (all_additionals ≡ true → ds ≡ [])
-    → left_out_of Answers x.answers m ≡ an → left_out_of Authorities x.authorities m ≡ us → left_out_of Additionals x.additionals m ≡ ds
+    → lacks_of Answers x m ≡ is_missing_of Answers (purpose_of x) ac an → lacks_of Authorities x m ≡ is_missing_of Authorities (purpose_of x) uc us
+    → lacks_of Additionals x m ≡ is_missing_of Additionals (purpose_of x) dc ds
     → Misses x m (all_answers && (all_authorities && all_additionals)) missing
-    → (missing ≡ has_left_required (purpose_of x) an us ds) × (is_uncut (purpose_of x) ≡ true → (an ≡ []) × (us ≡ []) × (ds ≡ []))
-missing_as x m an us ds true true true missing no_an no_us no_ds an_are us_are ds_are misses =
+    → (missing ≡ (is_missing_of Answers (purpose_of x) ac an || (is_missing_of Authorities (purpose_of x) uc us || is_missing_of Additionals (purpose_of x) dc ds)))
+    × (is_uncut (purpose_of x) ≡ true → (an ≡ []) × (us ≡ []) × (ds ≡ []))
+missing_as x m ac an uc us dc ds true true true missing no_an no_us no_ds an_are us_are ds_are misses =
     let none : (an ≡ []) × (us ≡ []) × (ds ≡ []) = (no_an refl, no_us refl, no_ds refl) in
     (misses ∙ sym (rw (none.0, none.1, none.2) refl), λ uncut. none)
-missing_as x m an us ds true true false missing no_an no_us no_ds an_are us_are ds_are (cut, is) = (
-  is ∙ rw (an_are, us_are, ds_are) refl,
-  λ uncut. absurd (true≢false (sym uncut ∙ cut)),
-)
-missing_as x m an us ds true false more missing no_an no_us no_ds an_are us_are ds_are (cut, is) = (
-  is ∙ rw (an_are, us_are, ds_are) refl,
-  λ uncut. absurd (true≢false (sym uncut ∙ cut)),
-)
-missing_as x m an us ds false all more missing no_an no_us no_ds an_are us_are ds_are (cut, is) = (
-  is ∙ rw (an_are, us_are, ds_are) refl,
-  λ uncut. absurd (true≢false (sym uncut ∙ cut)),
-)
+missing_as x m ac an uc us dc ds true true false missing no_an no_us no_ds an_are us_are ds_are (cut, is) =
+    (all_lack x m _ _ _ missing an_are us_are ds_are is, λ uncut. absurd (true≢false (sym uncut ∙ cut)))
+missing_as x m ac an uc us dc ds true false more missing no_an no_us no_ds an_are us_are ds_are (cut, is) =
+    (all_lack x m _ _ _ missing an_are us_are ds_are is, λ uncut. absurd (true≢false (sym uncut ∙ cut)))
+missing_as x m ac an uc us dc ds false all more missing no_an no_us no_ds an_are us_are ds_are (cut, is) =
+    (all_lack x m _ _ _ missing an_are us_are ds_are is, λ uncut. absurd (true≢false (sym uncut ∙ cut)))
 
 -- ---- questions
 
@@ -196,7 +204,7 @@ copies_hold x max_size old new w long copies =
     let asked = copies.questions in
     let (has_room, enough, begun_is, first_is) = asked.begins in
     let empty = begun_messages_are_empty id flags max_size old asked.begun asked.first asked.id_fits asked.flags_fit long asked.begins in
-    let held : WriterState = record asked.first { reserved = held_from 0 x.additionals } in
+    let held : WriterState = record asked.first { reserved = asked.held } in
     let start = unchanged_messages_hold id flags no_items asked.first held asked.begun asked.begun empty refl refl refl in
     let start_within : Within max_size held = (ap (λ (x : WriterState). x.max_size) first_is, omega (arith, ap (λ (x : WriterState). x.end) first_is, enough)) in
     let (qs, queries, holds) = queries_hold id flags no_items x.queries held copies.asked asked.begun copies.asked_by start asked.adds in
@@ -220,11 +228,11 @@ copies_hold x max_size old new w long copies =
     let us = authorities.first in
     let os = additionals.first in
     let counts = filled.counts in
-    let (missing_is, uncut) = missing_as x copies.filled_by an.left us.left os.left s.all_answers s.all_authorities s.all_additionals copies.missing
-    answers.none_left authorities.none_left additionals.none_left
-    (left_are Answers x.answers x.answers rs copies.filled_by an refl (counts Answers))
-    (left_are Authorities x.authorities x.authorities us_ copies.filled_by us refl (counts Authorities))
-    (left_are Additionals x.additionals (sets_of Additionals x.additionals) ds copies.filled_by os refl (counts Additionals)) s.missing_is in
+    let (missing_is, uncut) = missing_as x copies.filled_by an.copied an.left us.copied us.left os.copied os.left s.all_answers s.all_authorities
+    s.all_additionals copies.missing answers.none_left authorities.none_left additionals.none_left
+    (lacks_as Answers x x.answers rs copies.filled_by an refl (counts Answers))
+    (lacks_as Authorities x x.authorities us_ copies.filled_by us refl (counts Authorities))
+    (lacks_as Additionals x (sets_of Additionals x.additionals) ds copies.filled_by os refl (counts Additionals)) s.missing_is in
     let items : AreItemsOf x c5 copies.missing = record {
       queries = queries;
       answers = an;

@@ -9,10 +9,12 @@ pub mod Eights
 pub mod GivenData
 pub mod GivenRecords
 pub mod Going
+pub mod LastRecords
 pub mod Laying
 pub mod Listing
 pub mod Opening
 pub mod Opts
+pub mod Owners
 pub mod Puts
 pub mod ItemsBack
 pub mod PiecesBack
@@ -28,4 +30,5 @@ pub mod StandsBefore
 pub mod Taken
 pub mod Turning
 pub mod WholeNames
+pub mod WholeSets
 pub mod Wholes

@@ -114,7 +114,7 @@ module _ (b later : List ℕ) (gap : ℕ) (keeps : KeepsSettled gap b later) whe
 -- ---- hints
 
 -- a hint that is kept is one that there was, or the new one
-kept_index : (hints : List ℕ) (at_slot offset i : ℕ)
+pub kept_index : (hints : List ℕ) (at_slot offset i : ℕ)
     → ((j : ℕ) × (get_or (kept_hints hints at_slot offset) i 0 ≡ get_or hints j 0)) ⊎ (get_or (kept_hints hints at_slot offset) i 0 ≡ offset)
 kept_index hints at_slot offset i = chosen (nat_lt offset 16384)
   where

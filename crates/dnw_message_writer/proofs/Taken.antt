@@ -11,7 +11,7 @@ use Rattle.dnw_data.specs.declared.kind.Kind.{Kind}
 use Rattle.dnw_data.specs.declared.kind.NameForm.TheVariants.{Compressible}
 use Rattle.dnw_data.specs.Table.{fields_of}
 use Rattle.dnw_record.specs.DataCopies.{Copies, TakesPiece, TakesPieces, data_start, record_kinds}
-use Rattle.dnw_record.specs.DataPieces.{name_piece, octets_of, piece_octets}
+use Rattle.dnw_record.specs.DataPieces.{IsData, name_piece, octets_of, piece_octets}
 use Rattle.dnw_record.specs.Records.{RecordValue}
 use Rattle.dnw_record.proofs.Alike.{copied_kinds}
 use Rattle.dnw_record.proofs.Pieces.{are_pieces, behind, piece_again, pieces_again}
@@ -26,6 +26,13 @@ at_left : (d : Decoder) → d.index ≤ length d.bytes → behind (take d.index 
 at_left d within =
     ap (λ bytes. record { bytes = bytes; index = length (take d.index d.bytes) }) (take-append-drop d.index d.bytes)
     ∙ ap (λ n. record { bytes = d.bytes; index = n }) (length-take-le d.index d.bytes within)
+
+-- data that are left, with every name whole, are their own copy
+pub copies_itself : (ks : List Kind) (d : Decoder) → d.index ≤ length d.bytes → IsData ks (drop d.index d.bytes) → Copies ks d (drop d.index d.bytes)
+copies_itself ks d within (fields, has) =
+    let front = take d.index d.bytes in
+    let there : behind front (octets_of fields) ≡ d = ap (behind front) (sym has.whole) ∙ at_left d within in
+    (fields, subst (λ e. TakesPieces ks e fields) there (pieces_again ks fields front has.are), has.whole)
 
 -- data that are left are read
 pub takes_all : (ks : List Kind) (d : Decoder) (xs : List Piece) → d.index ≤ length d.bytes → AreOfData ks (drop d.index d.bytes) xs → TakesAsPieces ks d xs

@@ -1,11 +1,12 @@
 -- Records and messages that were read, written again (RFC 2181, sections 5 and 9; RFC 6891, section 6.1.1).
-use Rattle.std.specs.Prelude.{◌≡◌, ◌≢◌, ℕ, None, Some, ◌+◌, ◌<◌, ◌^◌, ◌==◌, ◌&&◌, ◌||◌, ◌⊎◌, nat_le, not, min, if◌then◌else◌, Bool, true, false, List, [], ◌∷◌, ◌++◌, drop, filter, length, take}
+use Rattle.std.specs.Prelude.{◌≡◌, ◌≢◌, ℕ, None, Some, ◌+◌, ◌<◌, ◌^◌, ◌==◌, ◌&&◌, ◌||◌, ◌⊎◌, nat_le, not, if◌then◌else◌, Bool, true, false, List, [], ◌∷◌, ◌++◌, drop, filter, length, take}
 use Rattle.std.specs.List.{AllByRecursion}
 use Rattle.dnw_base.specs.DnsClasses.{class_code}
 use Rattle.dnw_base.specs.Limits.{max_pointers}
 use Rattle.dnw_base.specs.Names.{AreLabels, encoded_size, lower}
 use Rattle.dnw_base.specs.RecordTypes.{type_code}
 use Rattle.dnw_base.specs.TypeCodes.{opt_code, sig_code, tsig_code}
+use Rattle.dnw_data.specs.declared.fields.FieldError.{FieldError}
 use Rattle.dnw_record.specs.DataCopies.{Copies, FailsToCopy, data_start, record_kinds}
 use Rattle.dnw_record.specs.DataPieces.{IsData}
 use Rattle.dnw_record.specs.DataPointers.{TakesAllPointers}
@@ -19,11 +20,11 @@ use Rattle.dnw_message_read.specs.declared.edns.EdnsError.{EdnsError}
 use Rattle.dnw_message_writer.specs.Hints.{slot_of}
 use Rattle.dnw_message_writer.specs.Items.{IsQuestion, ItemForm, ItemPast, question_past}
 use Rattle.dnw_message_writer.specs.Listed.{data_form, data_past}
-use Rattle.dnw_message_writer.specs.Needs.{has_left_required, is_server, is_uncut, purpose_of, signs_servers}
+use Rattle.dnw_message_writer.specs.Needs.{has_half, has_required, is_server, is_uncut, purpose_of, signs_servers}
 use Rattle.dnw_message_writer.specs.Replies.{field_at}
 use Rattle.dnw_message_writer.specs.Sets.{AddsSet, cut_off}
 use Rattle.dnw_message_writer.specs.Standing.{first_item}
-use Rattle.dnw_message_writer.specs.States.{BeginsMessage, FailsToAdd, count_in_header, for_last}
+use Rattle.dnw_message_writer.specs.States.{BeginsMessage, FailsToAdd, count_in_header, for_last, more_octets}
 use Rattle.dnw_message_writer.specs.declared.copying.CopyError.{CopyError}
 use Rattle.dnw_message_writer.specs.declared.copying.CopyError.TheVariants as errors
 use Rattle.dnw_message_writer.specs.declared.section.Section.{Section}
@@ -155,28 +156,58 @@ abbrev pub sets_of : Section → List RecordValue → List RecordValue
 sets_of Additionals xs = filter (λ x. not (is_held x)) xs
 sets_of section xs = xs
 
--- how many octets a record has, beside those of its owner's pointers
-abbrev pub own_octets : RecordValue → ℕ
-own_octets x = encoded_size x.owner + 10 + x.len
+-- how many octets a record with these data has, if its owner is whole
+abbrev pub size_with : RecordValue → List ℕ → ℕ
+size_with x own = more_octets (encoded_size x.owner + 10) (length own)
 
--- so many octets, and those of the records that come last
-abbrev pub held_from : ℕ → List RecordValue → ℕ
-held_from n [] = n
-held_from n (x ∷ xs) = held_from (if is_held x then min (n + own_octets x) 18446744073709551615 else n) xs
+-- A record is written with so many octets if every name is whole. If its data are no fields of its class and type, they count as they
+-- stand.
+abbrev pub IsWholeSize : RecordValue → ℕ → Type 0
+IsWholeSize x n =
+    ((own : List ℕ) × Copies (record_kinds x) (data_start x) own × (n ≡ size_with x own))
+    ⊎ ((error : FieldError) × FailsToCopy (record_kinds x) (data_start x) (Field error) × (n ≡ size_with x (data_octets x)))
 
--- the records of a section that are left out: those after as many as the message has
+-- So many octets are held back for records that come last, after others: as many as they are written with.
+abbrev pub HoldsFor : ℕ → List RecordValue → ℕ → Type 0
+HoldsFor n [] held = held ≡ n
+HoldsFor n (x ∷ xs) held = (size : ℕ) × IsWholeSize x size × HoldsFor (more_octets n size) xs held
+
+-- It is not found how many: memory ran out, which is not needed if the data of all of them stand whole.
+abbrev pub FailsToHold : List RecordValue → CopyError → Type 0
+FailsToHold xs e = (e ≡ errors.Memory) × (AllByRecursion StandWhole xs → ⊥)
+
+-- the records of a section that are there: as many as the message has
+abbrev pub there_of : Section → List RecordValue → List ℕ → List RecordValue
+there_of s xs m = take (count_in_header s m) (sets_of s xs)
+
+-- those that are left out
 abbrev pub left_out_of : Section → List RecordValue → List ℕ → List RecordValue
 left_out_of s xs m = drop (count_in_header s m) (sets_of s xs)
 
--- A record that it has to have is left out.
-abbrev pub lacks_required : MessageValue → List ℕ → Bool
-lacks_required x m =
-    has_left_required (purpose_of x) (left_out_of Answers x.answers m) (left_out_of Authorities x.authorities m) (left_out_of Additionals x.additionals m)
+-- the records of a section
+abbrev pub section_records : Section → MessageValue → List RecordValue
+section_records Queries x = []
+section_records Answers x = x.answers
+section_records Authorities x = x.authorities
+section_records Additionals x = x.additionals
 
--- All records are added, or some are left out, as may be of this message. Whether one is missing that it has to have.
+-- Of a section something is missing: a record that it has to have, or half of a set.
+abbrev pub lacks_record_of : Section → MessageValue → List ℕ → Bool
+lacks_record_of s x m = has_required s (purpose_of x) false (left_out_of s (section_records s x) m)
+
+abbrev pub lacks_half_of : Section → MessageValue → List ℕ → Bool
+lacks_half_of s x m = has_half (count_in_header s m) (there_of s (section_records s x) m) (left_out_of s (section_records s x) m)
+
+abbrev pub lacks_of : Section → MessageValue → List ℕ → Bool
+lacks_of s x m = lacks_record_of s x m || lacks_half_of s x m
+
+abbrev pub lacks_some : MessageValue → List ℕ → Bool
+lacks_some x m = lacks_of Answers x m || (lacks_of Authorities x m || lacks_of Additionals x m)
+
+-- All records are added, or some are left out, as may be of this message. Whether something is missing that it has to have.
 abbrev pub Misses : MessageValue → List ℕ → Bool → Bool → Type 0
 Misses x m true missing = missing ≡ false
-Misses x m false missing = (is_uncut (purpose_of x) ≡ false) × (missing ≡ lacks_required x m)
+Misses x m false missing = (is_uncut (purpose_of x) ≡ false) × (missing ≡ lacks_some x m)
 
 -- Not all are, of a message that is never cut.
 abbrev pub MayNotMiss : MessageValue → Bool → CopyError → Type 0
@@ -189,7 +220,9 @@ pub record CopiesQuestions (x : MessageValue) (max_size : ℕ) (old : List ℕ) 
   pub id_fits : x.header.metadata.id < 2 ^ 16
   pub flags_fit : flags_of x.header.metadata < 2 ^ 16
   pub begins : BeginsMessage x.header.metadata.id (flags_of x.header.metadata) max_size old first begun
-  pub adds : AddsSet Queries query_form x.queries (record first { reserved = held_from 0 x.additionals }) begun w m
+  pub held : ℕ
+  pub holds : HoldsFor 0 (held_in x.additionals) held
+  pub adds : AddsSet Queries query_form x.queries (record first { reserved = held }) begun w m
 
 -- Its records are added, but for those that come last: section by section, and set by set. Whether one is missing that it has to have.
 pub record CopiesSections (x : MessageValue) (w : WriterState) (m : List ℕ) (v : WriterState) (n : List ℕ) (missing : Bool) : Type 0 where
@@ -235,11 +268,16 @@ FailsToAddQuery q w m e =
     (error : WriteError) × FailsToAdd Queries (question_past slot_of q.name) w m error
     × (e ≡ errors.Write error)
 
-pub record FailsQuestions (x : MessageValue) (max_size : ℕ) (old : List ℕ) (e : CopyError) : Type 0 where
+pub record StopsAtQuestion (x : MessageValue) (max_size : ℕ) (old : List ℕ) (e : CopyError) : Type 0 where
   pub first : WriterState
   pub begun : List ℕ
   pub begins : BeginsMessage x.header.metadata.id (flags_of x.header.metadata) max_size old first begun
-  pub stops : StopsAmong Queries query_form FailsToAddQuery x.queries (record first { reserved = held_from 0 x.additionals }) begun e
+  pub held : ℕ
+  pub holds : HoldsFor 0 (held_in x.additionals) held
+  pub stops : StopsAmong Queries query_form FailsToAddQuery x.queries (record first { reserved = held }) begun e
+
+abbrev pub FailsQuestions : MessageValue → ℕ → List ℕ → CopyError → Type 0
+FailsQuestions x max_size old e = FailsToHold (held_in x.additionals) e ⊎ StopsAtQuestion x max_size old e
 
 -- A record of a section is not added, for another reason than room; or one has no room, and the message is never cut.
 pub data FailsSections (x : MessageValue) (w : WriterState) (m : List ℕ) (e : CopyError) : Type 0 where

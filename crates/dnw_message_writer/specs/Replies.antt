@@ -1,13 +1,15 @@
 -- How a reply begins (RFC 1035, section 4.1.1; RFC 6891, sections 6.1.3 and 7; RFC 9619).
-use Rattle.std.specs.Prelude.{◌≡◌, ℕ, ◌+◌, ◌%◌, ◌<◌, ◌≤◌, ◌==◌, ◌||◌, ◌⊎◌, nat_lt, if◌then◌else◌, Bool, true, false, min, bit_and, bit_or, Option, Some, None, List, [], ◌∷◌, length, slice_index}
+use Rattle.std.specs.Prelude.{◌≡◌, ℕ, ◌+◌, ◌%◌, ◌<◌, ◌≤◌, ◌==◌, ◌||◌, ◌⊎◌, nat_lt, not, if◌then◌else◌, Bool, true, false, min, bit_and, bit_or, Option, Some, None, List, [], ◌∷◌, length, slice_index}
 use Rattle.std.specs.Int.{w16, from_be_bytes}
 use Rattle.dnw_base.specs.DnsClasses.{class_code}
 use Rattle.dnw_base.specs.Limits.{max_pointers, min_payload}
 use Rattle.dnw_base.specs.RecordTypes.{type_code}
 use Rattle.dnw_message_read.specs.Edns.{EdnsValue, FailsEdns, HasEdns}
 use Rattle.dnw_message_read.specs.Messages.{FailsMessage, MessageAt, MessageValue, QueryValue}
+use Rattle.dnw_message_read.specs.ResponseCodes.{response_code}
 use Rattle.dnw_message_read.specs.declared.edns.EdnsError.{EdnsError}
 use Rattle.dnw_message_read.specs.declared.error.MessageError.{MessageError}
+use Rattle.dnw_message_read.specs.declared.response_code.ResponseCode.TheVariants.{BADVERS, FormErr, NotImp}
 use Rattle.dnw_message_writer.specs.Hints.{slot_of}
 use Rattle.dnw_message_writer.specs.Items.{question_form, question_past}
 use Rattle.dnw_message_writer.specs.Sections.{rank}
@@ -20,6 +22,26 @@ use Rattle.dnw_message_writer.specs.declared.section.Section.TheVariants.{Additi
 use Rattle.dnw_message_writer.specs.declared.section.WriteError.{WriteError}
 use Rattle.dnw_message_writer.specs.declared.section.WriteError.TheVariants.{NoRoom}
 use Rattle.dnw_message_writer.specs.declared.state.WriterState.{WriterState}
+
+-- ---- codes
+
+-- the response codes FORMERR and NOTIMP (RFC 1035, section 4.1.1), and BADVERS (RFC 6891, section 6.1.3)
+abbrev pub formerr_code : ℕ
+formerr_code = response_code FormErr
+
+abbrev pub notimp_code : ℕ
+notimp_code = response_code NotImp
+
+abbrev pub badvers_code : ℕ
+badvers_code = response_code BADVERS
+
+-- the greatest response code of four bits, which a header has (RFC 1035, section 4.1.1), and of twelve, as with EDNS (RFC 6891, section
+-- 6.1.3)
+abbrev pub most_in_header : ℕ
+most_in_header = 15
+
+abbrev pub most_by_edns : ℕ
+most_by_edns = 4095
 
 -- ---- requests
 
@@ -35,14 +57,18 @@ field_at octets p = from_be_bytes w16 (slice_index octets p ∷ slice_index octe
 abbrev pub nothing_asked : ℕ → Asked
 nothing_asked code = record { has_edns = false; max_payload = min_payload; dnssec_ok = false; rcode = code }
 
--- what EDNS asks: another version than 0 is answered with BADVERS (16)
-abbrev pub asks_by : EdnsValue → Asked
-asks_by e = record { has_edns = true; max_payload = e.max_payload; dnssec_ok = e.dnssec_ok; rcode = if nat_lt 0 e.version then 16 else 0 }
+-- the response code of a request with a version of EDNS: BADVERS for another one than 0
+abbrev pub code_for : ℕ → ℕ
+code_for version = if nat_lt 0 version then badvers_code else 0
 
--- What a message asks by EDNS: nothing if it has none, and FORMERR (1) if it breaks a rule.
+-- what EDNS asks
+abbrev pub asks_by : EdnsValue → Asked
+asks_by e = record { has_edns = true; max_payload = e.max_payload; dnssec_ok = e.dnssec_ok; rcode = code_for e.version }
+
+-- What a message asks by EDNS: nothing if it has none, and FORMERR if it breaks a rule.
 abbrev pub AsksByEdns : MessageValue → Asked → Type 0
 AsksByEdns m asked =
-    ((e : EdnsError) × FailsEdns m e × (asked ≡ nothing_asked 1))
+    ((e : EdnsError) × FailsEdns m e × (asked ≡ nothing_asked formerr_code))
     ⊎ (HasEdns m None × (asked ≡ nothing_asked 0))
     ⊎ ((e : EdnsValue) × HasEdns m (Some e) × (asked ≡ asks_by e))
 
@@ -54,13 +80,13 @@ IsOnlyQuery xs q = ⊥
 
 -- a request to be answered with FORMERR, if it is not with another code
 abbrev pub malformed : Asked → Asked
-malformed asked = record asked { rcode = if asked.rcode == 0 then 1 else asked.rcode }
+malformed asked = record asked { rcode = if asked.rcode == 0 then formerr_code else asked.rcode }
 
 -- What a request asks, and the question that its reply repeats. One that cannot be read, or has more than one question, is answered
 -- with FORMERR and without a question; if it can be read, its EDNS counts all the same (RFC 6891, section 6.1.1).
 abbrev pub AsksOf : List ℕ → Asked → Option QueryValue → Type 0
 AsksOf request asked query =
-    ((e : MessageError) × FailsMessage request max_pointers e × (asked ≡ nothing_asked 1) × (query ≡ None))
+    ((e : MessageError) × FailsMessage request max_pointers e × (asked ≡ nothing_asked formerr_code) × (query ≡ None))
     ⊎ ((m : MessageValue) × (k : ℕ) × MessageAt request m k
     × (((2 ≤ length m.queries) × (by_edns : Asked) × AsksByEdns m by_edns × (asked ≡ malformed by_edns) × (query ≡ None))
     ⊎ (IsOnlyQuery m.queries query × AsksByEdns m asked)))
@@ -77,11 +103,12 @@ reply_code asked own = if asked.rcode == 0 then own else asked.rcode
 
 -- the greatest code that a reply can have: of twelve bits with EDNS, and else of four
 abbrev pub most_code : Asked → ℕ
-most_code asked = if asked.has_edns then 4095 else 15
+most_code asked = if asked.has_edns then most_by_edns else most_in_header
 
--- A reply with this code is whole without a record: FORMERR, NOTIMP and BADVERS (RFC 1035, section 4.1.1; RFC 6891, section 6.1.3).
-abbrev pub is_bare : ℕ → Bool
-is_bare code = (code == 1) || (code == 4) || (code == 16)
+-- A reply with this code takes records. One with FORMERR, NOTIMP or BADVERS is whole without (RFC 1035, section 4.1.1; RFC 6891, section
+-- 6.1.3).
+abbrev pub takes_records : ℕ → Bool
+takes_records code = not ((code == formerr_code) || (code == notimp_code) || (code == badvers_code))
 
 -- A question is added, if there is one.
 abbrev pub AddsQuestion : Option QueryValue → WriterState → List ℕ → WriterState → List ℕ → Type 0
@@ -106,9 +133,9 @@ FailsToBeginAsked query id flags max_size old e =
 abbrev pub held_for : Asked → WriterState → WriterState
 held_for asked w = if asked.has_edns then record w { reserved = min (w.reserved + 11) 18446744073709551615 } else w
 
--- If a reply with this code is whole without a record, only additional records may follow: OPT, and a signature of the message.
+-- If a reply with this code takes no records, only additional ones may follow: OPT, and a signature of the message.
 abbrev pub closed_for : ℕ → WriterState → WriterState
-closed_for code w = if is_bare code then record w { rank = rank Additionals } else w
+closed_for code w = if takes_records code then w else record w { rank = rank Additionals }
 
 -- The reply to a request begins, with this code of the server's, if the request has to get no other.
 abbrev pub BeginsReplyTo : List ℕ → ℕ → ℕ → ℕ → Asked → List ℕ → WriterState → List ℕ → Type 0

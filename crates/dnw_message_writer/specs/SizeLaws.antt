@@ -1,5 +1,5 @@
 -- How many octets items take. Each is the clause of a public function, and so proved.
-use Rattle.std.specs.Prelude.{◌≢◌, ℕ, ◌+◌, ◌<◌, ◌≤◌, ◌⊎◌, List, [], ◌∷◌, slice_index, take}
+use Rattle.std.specs.Prelude.{◌≡◌, ◌≢◌, ℕ, ◌+◌, ◌<◌, ◌≤◌, ◌⊎◌, List, [], ◌∷◌, slice_index, take}
 use Rattle.std.specs.List.{AllByRecursion}
 use Rattle.dnw_base.specs.Limits.{pointer_bits, pointer_offsets}
 use Rattle.dnw_base.specs.Names.{AreLabels, encoded_size}
@@ -7,8 +7,9 @@ use Rattle.dnw_message_writer.specs.Contents.{AddedQuestion, AddedRecord}
 use Rattle.dnw_message_writer.specs.Inside.Fitting.{HasLabels, whole_size}
 use Rattle.dnw_message_writer.specs.Items.{IsNear, question_form, question_past, record_form, record_past}
 use Rattle.dnw_message_writer.specs.Standing.{first_item}
-use Rattle.dnw_message_writer.specs.States.{AddsItem, BeginsMessage, FailsToAdd, room_of}
+use Rattle.dnw_message_writer.specs.States.{AddsItem, AddsLastItem, BeginsMessage, FailsToAdd, for_last, room_of}
 use Rattle.dnw_message_writer.specs.declared.pieces.Piece.{Piece}
+use Rattle.dnw_message_writer.specs.declared.pieces.Piece.TheVariants.{Name, Octets}
 use Rattle.dnw_message_writer.specs.declared.section.Section.{Section}
 use Rattle.dnw_message_writer.specs.declared.section.Section.TheVariants.{Queries}
 use Rattle.dnw_message_writer.specs.declared.section.WriteError.TheVariants.{NoRoom}
@@ -42,6 +43,20 @@ RecordsTakeNoMore = (slot : List (List ℕ) → ℕ) (s : Section) (r : AddedRec
     → v.end ≤ w.end + whole_record r)
     × (FailsToAdd s (record_past slot r.owner r.record_type r.class r.ttl r.pieces) w old NoRoom
     → room_of w old < w.end + whole_record r)
+
+-- ---- last records
+
+-- The piece is octets, and no name that may be compressed. So are those of TSIG and SIG (RFC 3597, section 4; RFC 8945, section 4.2).
+abbrev pub IsPlainPiece : Piece → Type 0
+IsPlainPiece (Octets bytes) = Unit {0}
+IsPlainPiece (Name ls) = ⊥
+
+-- A last record takes as many octets as with its names whole: as many as were held back for it. Whatever the message has before.
+abbrev pub LastRecordsAreWhole : Type 0
+LastRecordsAreWhole = (slot : List (List ℕ) → ℕ) (held : ℕ) (r : AddedRecord) (w v : WriterState) (old new : List ℕ) → AreLabels r.owner
+    → AllByRecursion IsPlainPiece r.pieces
+    → AddsLastItem (record_form slot r.owner r.record_type r.class r.ttl r.pieces) (for_last held w) old v new
+    → v.end ≡ w.end + whole_record r
 
 -- ---- owners that repeat
 

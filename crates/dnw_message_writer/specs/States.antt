@@ -87,6 +87,10 @@ FailsToAdd s past w m e =
     FailsToTakeLimit s past.is_opt w m e
     ⊎ (IsLimit s past.is_opt w m (room_of w m) × past.goes (room_of w m) (take w.end m) w.owner w.hints × (e ≡ NoRoom))
 
+-- the sum of two numbers of octets, if that is a number at all
+abbrev pub more_octets : ℕ → ℕ → ℕ
+more_octets held more = min (held + more) 18446744073709551615
+
 -- the state that holds back so many octets fewer
 abbrev pub released : ℕ → WriterState → WriterState
 released held w = record w { reserved = w.reserved - held }

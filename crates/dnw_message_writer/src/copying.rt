@@ -3,7 +3,7 @@ ghost use Rattle.std.specs.Prelude.{◌≡◌, ◌∷◌, ◌<◌, ◌≤◌, �
 ghost use Rattle.dnw_base.specs.Names.{AreLabels, lower};
 ghost use Rattle.dnw_record.specs.DataCopies.{Copies, data_start, record_kinds};
 ghost use Rattle.dnw_message_read.specs.Headers.{flags_of};
-ghost use Rattle.dnw_message_writer.specs.Copying.{AreOfOneKind, AreOfOneSet, CopiesHeld, CopiesMessage, CopiesQuestions, CopiesSections, CopiesSets, FailsHeld, FailsQuestions, FailsSections, FailsSets, FailsToAddCopy, FailsToAddQuery, FailsToCopyMessage, StandWhole, StopsAmong, StopsInSet, copied_form, covers_no_type, held_from, copied_past, is_held, own_octets, query_form, sets_of, signs_message};
+ghost use Rattle.dnw_message_writer.specs.Copying.{AreOfOneKind, AreOfOneSet, CopiesHeld, CopiesMessage, CopiesQuestions, CopiesSections, CopiesSets, FailsHeld, FailsQuestions, FailsSections, FailsSets, FailsToAddCopy, FailsToHold, HoldsFor, IsWholeSize, FailsToAddQuery, FailsToCopyMessage, StandWhole, StopsAmong, StopsInSet, copied_form, covers_no_type, copied_past, held_in, is_held, query_form, sets_of, signs_message, size_with};
 ghost use Rattle.dnw_message_writer.specs.Inside.CopiedSets.{AddsFirstSet, first_of};
 ghost use Rattle.dnw_message_writer.specs.Inside.Taken.{IsCopiedIn};
 ghost use Rattle.dnw_message_writer.specs.Inside.Turns.{KeptCount};
@@ -11,6 +11,7 @@ ghost use Rattle.dnw_message_writer.specs.Hints.{slot_of};
 ghost use Rattle.dnw_message_writer.specs.Items.{question_form, question_past, record_form, record_past};
 ghost use Rattle.dnw_message_writer.specs.Sets.{AddsSet};
 ghost use Rattle.dnw_message_writer.specs.States.{AddsItem, BeginsMessage, FailsToAdd};
+ghost use Rattle.dnw_message_writer.specs.declared.copying.CopyError.TheVariants.{Memory};
 ghost use Rattle.dnw_message_writer.specs.declared.section.Section.TheVariants as Sections;
 
 use crate::data::pieces_of;
@@ -24,7 +25,7 @@ use crate::section::{Section, WriteError};
 use crate::set::{cut_off, two_at};
 use crate::standing::FIRST_ITEM;
 use crate::state::WriterState;
-use crate::taking::{MOST_NAMES, octets_in, pieces_in};
+use crate::taking::{MOST_NAMES, octets_in, pieces_in, whole_data};
 use dnw_base::limits::{MAX_NAME, MAX_POINTERS};
 use dnw_base::record_type::RecordType;
 use dnw_data::fields::FieldError;
@@ -304,7 +305,7 @@ impl WriterState {
         if max_size < FIRST_ITEM || message.len() < FIRST_ITEM {
             return Err(CopyError::Write(WriteError::NoRoom));
         }
-        match self.copy_questions(message, source, max_size) {
+        match self.copy_questions(alloc, message, source, max_size) {
             Ok(()) => {}
             Err(error) => return Err(error),
         }
@@ -325,6 +326,7 @@ impl WriterState {
     /// Begins with the header and the questions of a message.
     fn copy_questions(
         &mut self,
+        alloc: Global,
         message: &mut [u8],
         source: &MessageRef<'_>,
         max_size: usize,
@@ -336,8 +338,12 @@ impl WriterState {
     {
         let id = source.header().metadata.id;
         let flags = flags_of(source);
+        let held = match held_octets(alloc, source.additionals()) {
+            Ok(held) => held,
+            Err(error) => return Err(error),
+        };
         self.begin_copy(message, id, flags, max_size);
-        self.reserved = held_octets(source.additionals());
+        self.reserved = held;
         self.copy_queries(message, source.queries())
     }
 
@@ -566,7 +572,7 @@ fn is_of_kind(first: &RecordRef<'_>, item: &RecordRef<'_>) -> bool
 }
 
 /// Returns `true` if two names are the same, ignoring case. Mostly their wire forms are.
-fn are_alike(some: &NameRef<'_>, other: &NameRef<'_>) -> bool
+pub(crate) fn are_alike(some: &NameRef<'_>, other: &NameRef<'_>) -> bool
     ensures { IsTrue result ↔ (lower some.now ≡ lower other.now) }
 {
     if has_form_of(some, other) {
@@ -648,24 +654,46 @@ fn covers_no_type(octets: &[u8]) -> bool
     octets.len() >= 2 && field_at(octets, 0) == 0
 }
 
-/// Returns how many octets the records have that come last.
-fn held_octets(mut records: Records<'_>) -> usize
-    ensures { result ≡ held_from 0 records.entry }
+/// Returns how many octets are held back for the records that come last: as many as they are written with.
+fn held_octets(alloc: Global, mut records: Records<'_>) -> Result<usize, CopyError>
+    ensures ok { IfOk result (HoldsFor 0 (held_in records.entry)) }
+    ensures err { IfErr result (FailsToHold (held_in records.entry)) }
 {
     let mut held = 0usize;
     'records: while let Some(record) = records.next() {
         if is_held(&record) {
-            held = held.saturating_add(own_octets(&record));
+            let size = match whole_size(alloc, &record) {
+                Ok(size) => size,
+                Err(error) => return Err(error),
+            };
+            held = held.saturating_add(size);
         }
     }
-    held
+    Ok(held)
 }
 
-/// Returns how many octets a record has, beside those that a pointer of its owner leads to.
-fn own_octets(item: &RecordRef<'_>) -> usize
-    ensures { result ≡ own_octets item.now }
+/// Returns how many octets a record is written with if every name is whole.
+fn whole_size(alloc: Global, item: &RecordRef<'_>) -> Result<usize, CopyError>
+    ensures ok { IfOk result (IsWholeSize item.now) }
+    ensures err { IfErr result (λ e. (e ≡ Memory) × (StandWhole item.now → ⊥)) }
 {
-    item.owner().encoded_len() + FIXED_SIZE + item.rdata().len()
+    if let Some(octets) = whole_data(item) {
+        return Ok(size_with(item, octets));
+    }
+    match RData::from_ref(alloc, item) {
+        Ok(data) => Ok(size_with(item, data.octets())),
+        Err(RDataError::Field(_)) => Ok(size_with(item, item.rdata())),
+        Err(RDataError::Memory) => Err(CopyError::Memory),
+    }
+}
+
+/// Returns how many octets a record with these data has, if its owner is whole.
+#[inline(always)]
+fn size_with(item: &RecordRef<'_>, octets: &[u8]) -> usize
+    ensures { result ≡ size_with item.now octets.now }
+{
+    let before = item.owner().encoded_len() + FIXED_SIZE;
+    before.saturating_add(octets.len())
 }
 
 /// Returns the flags of a message, with the reserved one clear.

@@ -2,9 +2,9 @@
 //!
 //! The functions do nothing. Each is there for its clauses.
 ghost use Rattle.dnw_message_writer.specs.ContentLaws.{BegunMessagesAreEmpty, CutMessagesHold, GivenRecordsAreAdded, LastRecordsAreAdded, QuestionsAreAdded, RecordsAreAdded, SetsAreAdded, UnchangedMessagesHold};
-ghost use Rattle.dnw_message_writer.specs.CopyLaws.{CopiesHold};
+ghost use Rattle.dnw_message_writer.specs.CopyLaws.{CopiesHold, SetsAreWhole};
 ghost use Rattle.dnw_message_writer.specs.ReadItems.{DataNamesAreRead, GivenDataComeBack, HeldItemsAreRead, HeldItemsNeverFail, OctetsAreRead, ReadMessagesHaveItems};
-ghost use Rattle.dnw_message_writer.specs.SizeLaws.{HintsBegin, NearOwnersTakeTwo, QuestionsAreNear, QuestionsTakeNoMore, RecordsAreNear, RecordsTakeNoMore};
+ghost use Rattle.dnw_message_writer.specs.SizeLaws.{HintsBegin, LastRecordsAreWhole, NearOwnersTakeTwo, QuestionsAreNear, QuestionsTakeNoMore, RecordsAreNear, RecordsTakeNoMore};
 ghost use Rattle.dnw_message_writer.specs.NameLaws.{CompressedNamesTakeNoMore, WrittenNamesAreRead};
 
 /// A name that is written is read back, whatever the hints say, and takes no more octets than its wire form.
@@ -27,9 +27,10 @@ pub fn messages_hold_their_items()
 {}
 
 /// A message that was written again holds items of the other: all of its questions, and the first records of each section, which are all if
-/// they have room.
+/// they have room. If TC is clear, each of their sets is there whole or not at all.
 pub fn copies_hold_the_items()
-    ensures { CopiesHold }
+    ensures items { CopiesHold }
+    ensures sets { SetsAreWhole }
 {}
 
 /// What is written is what is read: a message that holds items is read as exactly these, in their sections and order, with its id and
@@ -53,6 +54,11 @@ pub fn data_are_read()
 pub fn items_take_no_more()
     ensures question { QuestionsTakeNoMore }
     ensures record { RecordsTakeNoMore }
+{}
+
+/// A last record, whose data have no name that may be compressed, takes as many octets as with its owner whole.
+pub fn last_records_are_whole()
+    ensures { LastRecordsAreWhole }
 {}
 
 /// An owner that repeats the name of the question before it, or the owner of the record before it, takes two octets.

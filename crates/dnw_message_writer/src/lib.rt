@@ -6,6 +6,7 @@
 pub mod copying;
 pub mod data;
 pub mod edns;
+pub mod halves;
 pub mod hints;
 mod items;
 mod last;

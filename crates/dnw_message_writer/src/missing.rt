@@ -1,9 +1,11 @@
 //! What is left out of a message that is written again, and whether it has to have it.
 ghost use Rattle.std.specs.Prelude.{◌≡◌, ◌≤◌, ◌&&◌, drop, false, length, IfErr, IfOk};
-ghost use Rattle.dnw_message_writer.specs.Copying.{MayNotMiss, Misses, lacks_required, left_out_of, sets_of};
+ghost use Rattle.dnw_message_writer.specs.Copying.{MayNotMiss, Misses, lacks_of, lacks_some, sets_of};
 ghost use Rattle.dnw_message_writer.specs.Needs.{with_all_asked, has_required, purpose_of, holding_all};
+ghost use Rattle.dnw_message_writer.specs.Sections.{rank};
 
 use crate::copying::{CopyError, flags_of, next_of};
+use crate::halves::{lacks_half_of, section_records};
 use crate::needs::{Purpose, is_server};
 use crate::section::{Section, WriteError};
 use crate::state::count_of;
@@ -34,7 +36,7 @@ pub(crate) fn what_is_missing(
     if purpose.is_uncut() {
         return Err(CopyError::Write(WriteError::NoRoom));
     }
-    Ok(lacks_required(&purpose, source, message))
+    Ok(lacks_some(&purpose, source, message))
 }
 
 /// Returns what a message is for.
@@ -66,28 +68,31 @@ fn take_all<'m>(purpose: &mut Purpose<'m>, section: Section, mut records: Record
     }
 }
 
-/// Returns `true` if a record is left out that the message has to have.
-fn lacks_required(purpose: &Purpose<'_>, source: &MessageRef<'_>, message: &[u8]) -> bool
+/// Returns `true` if something is missing of one of the sections.
+fn lacks_some(purpose: &Purpose<'_>, source: &MessageRef<'_>, message: &[u8]) -> bool
     requires long { 12 ≤ length message.now }
     requires purpose { purpose.now ≡ purpose_of source.now }
-    ensures { result ≡ lacks_required source.now message.now }
+    ensures { result ≡ lacks_some source.now message.now }
 {
-    lacks(purpose, Section::Answers, source.answers(), message)
-        || (lacks(purpose, Section::Authorities, source.authorities(), message)
-            || lacks(purpose, Section::Additionals, source.additionals(), message))
+    lacks(purpose, Section::Answers, source, message)
+        || (lacks(purpose, Section::Authorities, source, message)
+            || lacks(purpose, Section::Additionals, source, message))
 }
 
-/// Returns `true` if a record of a section is left out that the message has to have.
-fn lacks(purpose: &Purpose<'_>, section: Section, mut records: Records<'_>, message: &[u8]) -> bool
-    requires { 12 ≤ length message.now }
-    ensures { result ≡ has_required section purpose.now false (left_out_of section records.entry message.now) }
+/// Returns `true` if something is missing of a section: a record that the message has to have, or half of a set.
+fn lacks(purpose: &Purpose<'_>, section: Section, source: &MessageRef<'_>, message: &[u8]) -> bool
+    requires long { 12 ≤ length message.now }
+    requires records { 1 ≤ rank section }
+    requires purpose { purpose.now ≡ purpose_of source.now }
+    ensures { result ≡ lacks_of section source.now message.now }
 {
+    let mut records = section_records(section, source);
     pass(section, &mut records, count_of(message, section));
-    has_required(purpose, section, records)
+    has_required(purpose, section, records) || lacks_half_of(section, source, message)
 }
 
 /// Passes so many records of a section.
-fn pass(section: Section, records: &mut Records<'_>, count: u16)
+pub(crate) fn pass(section: Section, records: &mut Records<'_>, count: u16)
     ensures { sets_of section records.new ≡ drop count (sets_of section records.old) }
 {
     let mut left = count;

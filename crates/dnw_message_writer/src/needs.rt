@@ -2,7 +2,7 @@
 //!
 //! Read `specs/Needs.antt` first: it has each case with its RFC.
 ghost use Rattle.std.specs.Prelude.{◌≡◌};
-ghost use Rattle.dnw_message_writer.specs.Needs.{with_asked, covers_servers, first_cut, is_of_address, is_asked, is_below, is_below_cut, is_glue, is_of_query, is_extra, is_server, signs_servers, is_request, is_required, is_required_in, is_transfer, is_uncut, purpose_by, holding};
+ghost use Rattle.dnw_message_writer.specs.Needs.{with_asked, covers_servers, first_cut, is_answered, is_of_address, is_asked, is_below, is_below_cut, is_glue, is_of_query, is_extra, is_server, last_data, signs_servers, is_request, is_required, is_required_in, is_transfer, is_uncut, purpose_by, holding};
 
 use crate::reply::field_at;
 use crate::section::Section;
@@ -21,8 +21,8 @@ pub struct Purpose<'m> {
     pub flags: u16,
     /// The code of the type that the first question asks for.
     pub asked: Option<u16>,
-    /// Whether a record of that type is among the answers.
-    pub has_data: bool,
+    /// The last answer of that type.
+    pub found: Option<RecordRef<'m>>,
     /// The first NS of the authority section.
     pub cut: Option<RecordRef<'m>>,
 }
@@ -35,7 +35,7 @@ impl<'m> Purpose<'m> {
         Purpose {
             flags,
             asked: None,
-            has_data: false,
+            found: None,
             cut: None,
         }
     }
@@ -55,8 +55,9 @@ impl<'m> Purpose<'m> {
     {
         match section {
             Section::Answers => {
-                let code = item.record_type().code();
-                self.has_data = self.has_data || is_asked(self.asked, code);
+                if is_asked(self.asked, item.record_type().code()) {
+                    self.found = Some(item);
+                }
             }
             Section::Authorities => {
                 if self.cut.is_none() && item.record_type().code() == RecordType::NS.code() {
@@ -88,9 +89,19 @@ impl<'m> Purpose<'m> {
     {
         match section {
             Section::Queries | Section::Answers => true,
-            Section::Authorities => !(self.has_data && is_extra(out, item)),
-            Section::Additionals => !self.has_data && self.is_glue(item),
+            Section::Authorities => !(self.is_answered() && is_extra(out, item)),
+            Section::Additionals => !self.is_answered() && self.is_glue(item),
         }
+    }
+
+    /// Returns `true` if the answer ends in data of the zone whose servers the message has.
+    fn is_answered(&self) -> bool
+        ensures { result ≡ is_answered self.now }
+    {
+        let Some(found) = &self.found else {
+            return false;
+        };
+        self.is_below_cut(found)
     }
 
     /// Returns `true` for an address at the cut or below it.

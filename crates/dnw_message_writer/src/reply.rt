@@ -1,8 +1,8 @@
 //! Replies, as they begin (RFC 1035, section 4.1.1; RFC 6891, section 7; RFC 9619).
-ghost use Rattle.std.specs.Prelude.{◌≡◌, ◌+◌, ◌↔◌, ◌≤◌, length, nat_lt, if◌then◌else◌, IfErr, IfOk, IsTrue, OnErr, OnOk};
+ghost use Rattle.std.specs.Prelude.{◌≡◌, ◌+◌, ◌↔◌, ◌≤◌, length, IfErr, IfOk, IsTrue, OnErr, OnOk};
 ghost use Rattle.dnw_message_read.specs.Edns.{is_opt};
 ghost use Rattle.dnw_message_writer.specs.Inside.Asked.{AsksByOpt, HasAdditionalsAlone};
-ghost use Rattle.dnw_message_writer.specs.Replies.{AsksByEdns, AsksOf, BeginsAsked, BeginsReplyTo, FailsToBeginAsked, FailsToReply, IsRequest, closed_for, field_at, held_for, is_bare, malformed, most_code, nothing_asked, reply_code, reply_flags};
+ghost use Rattle.dnw_message_writer.specs.Replies.{AsksByEdns, AsksOf, BeginsAsked, BeginsReplyTo, FailsToBeginAsked, FailsToReply, IsRequest, closed_for, code_for, field_at, held_for, malformed, most_code, nothing_asked, reply_code, reply_flags, takes_records};
 
 use crate::edns::are_options;
 use crate::section::{Section, WriteError};
@@ -121,7 +121,7 @@ impl WriterState {
         if asked.has_edns {
             self.hold_back(OPT_SIZE);
         }
-        if is_bare(code) {
+        if !takes_records(code) {
             self.rank = Section::Additionals.rank();
         }
     }
@@ -196,11 +196,11 @@ fn most_code(asked: Asked) -> u16
     }
 }
 
-/// Returns `true` if a reply with this response code is whole without a record.
-fn is_bare(code: u16) -> bool
-    ensures { result ≡ is_bare code }
+/// Returns `true` if a reply with this response code takes records, and `false` for FORMERR, NOTIMP and BADVERS.
+pub fn takes_records(code: u16) -> bool
+    ensures { result ≡ takes_records code }
 {
-    code == FORMAT_ERROR || code == NOT_IMPLEMENTED || code == BAD_VERSION
+    code != FORMAT_ERROR && code != NOT_IMPLEMENTED && code != BAD_VERSION
 }
 
 /// Returns what a request asks, and the question that its reply repeats.
@@ -289,7 +289,7 @@ fn asked_by(opt: &RecordRef<'_>) -> Asked
 /// Returns the response code of a request with a version of EDNS: 0 if it is known.
 #[inline(always)]
 fn code_for(version: u8) -> u16
-    ensures { result ≡ (if nat_lt 0 version then 16 else 0) }
+    ensures { result ≡ code_for version }
 {
     if version > 0 { BAD_VERSION } else { 0 }
 }

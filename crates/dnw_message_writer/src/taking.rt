@@ -1,5 +1,6 @@
 //! The data of records of other messages as pieces, without a copy of them.
 ghost use Rattle.std.specs.Prelude.{◌≡◌, ◌+◌, ◌≤◌, ◌∷◌, ◌++◌, [], List, length, IfNone, IfSome, IsTrue};
+ghost use Rattle.dnw_record.specs.DataCopies.{Copies, data_start, record_kinds};
 ghost use Rattle.dnw_message_writer.specs.Copying.{StandWhole};
 ghost use Rattle.dnw_message_writer.specs.Inside.Splitting.{most_pieces};
 ghost use Rattle.dnw_message_writer.specs.Inside.Taken.{IsCopiedIn, TakesAsPieces};
@@ -15,6 +16,20 @@ use dnw_record::record_ref::RecordRef;
 
 /// No data have more names that may be compressed: those of SOA are two.
 pub(crate) const MOST_NAMES: usize = 2;
+
+/// Returns the data of a record, if they are fields of its class and type and no name among them has a pointer.
+pub(crate) fn whole_data<'m>(item: &RecordRef<'m>) -> Option<&'m [u8]>
+    ensures some { IfSome result (λ octets. Copies (record_kinds item.now) (data_start item.now) octets.now) }
+    ensures none { IfNone result (StandWhole item.now → ⊥) }
+{
+    let reader = item.data_decoder();
+    let octets = &reader.message()[reader.index()..];
+    if are_data(item.kinds(), octets) {
+        Some(octets)
+    } else {
+        None
+    }
+}
 
 /// Returns the piece that the data of a record are, if no name among them may be compressed: octets of its message.
 ///

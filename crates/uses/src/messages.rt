@@ -1,5 +1,6 @@
 //! Writes a message, and reads it.
-ghost use Rattle.std.specs.Prelude.{IfErr, IfOk};
+ghost use Rattle.std.specs.Prelude.{◌≡◌, ◌≤◌, ◌+◌, length, IfErr, IfOk};
+ghost use Rattle.dns_names_wire.specs.Words.{encoded_size};
 ghost use Rattle.uses.specs.Messages.{FailsResponse, IsResponse};
 
 use dns_names_wire::Name;
@@ -11,6 +12,11 @@ const MAX_MESSAGE: usize = 512;
 
 /// The flags of a response of an authority: QR and AA (RFC 1035, section 4.1.1).
 const RESPONSE: u16 = 0x8400;
+
+/// The type TSIG (RFC 8945, section 4.2), and the class of its records.
+const TSIG: u16 = 250;
+
+const ANY: u16 = 255;
 
 /// The type A, the class IN, and an hour.
 const A: u16 = 1;
@@ -47,4 +53,22 @@ pub fn write_and_read(
     )?;
     let read = MessageRef::read(message).unwrap();
     Ok(read.header().counts)
+}
+
+/// Adds a TSIG record with these data, with as many of the octets that are held back as it has with its owner whole, and returns how
+/// many it has: just so many.
+pub fn add_tsig(
+    writer: &mut WriterState,
+    message: &mut [u8],
+    key: &Name,
+    data: &[u8],
+) -> Result<usize, WriteError>
+    requires { length data.now ≤ 65535 }
+    ensures { IfOk result (λ size. (size ≡ encoded_size key.now.labels + 10 + length data.now) × (writer.new.end ≡ writer.old.end + size)) }
+{
+    laws::last_records_are_whole();
+    let size = key.encoded_len() + 10 + data.len();
+    let pieces = [Piece::Octets(data)];
+    writer.last_record(message, size, key.wire_labels(), TSIG, ANY, 0, &pieces)?;
+    Ok(size)
 }

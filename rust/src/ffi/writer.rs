@@ -153,21 +153,24 @@ impl Writer {
     }
 }
 
-/// Replaces `message` with a message of the items of a list, with an id and flags. Returns whether its TC bit is set.
+/// Replaces `message` with a message of the items of a list, with an id and flags, and padded to a multiple of `block` octets.
+/// Returns whether its TC bit is set.
 pub(crate) fn write_list(
     items: &[u8],
     max_size: u16,
     (id, flags): (u16, u16),
+    block: u16,
     message: &mut Vec<u8>,
 ) -> Result<bool, Error> {
     message.clear();
-    // An item takes no more octets in a message than in the list.
-    message.reserve(HEADER_SIZE + items.len().min(max_size.into()));
+    // An item takes no more octets in a message than in the list, but for padding.
+    let padding = OPTION_SIZE + usize::from(block.min(MOST_BLOCK));
+    message.reserve(HEADER_SIZE + (items.len() + padding).min(max_size.into()));
     let (mut result, room) = (Packed::default(), message.spare_capacity_mut());
     let (first, size, max_size) = (room.as_mut_ptr().cast(), room.len(), usize::from(max_size));
     // SAFETY: pointers with their lengths, see the module; and the room is not read.
     let number =
-        unsafe { dnw_message_write(items.as_ptr(), items.len(), max_size, id, flags, first, size, &mut result) };
+        unsafe { dnw_message_write(items.as_ptr(), items.len(), max_size, id, flags, block, first, size, &mut result) };
     outcome(number, ())?;
     // SAFETY: these bytes of the room were written.
     unsafe { message.set_len(result.len) };

@@ -8,7 +8,7 @@ use Rattle.dnw_c_messages.proofs.writing.add_records.Goals as goal
 pub returns-in-Err-clause-err : goal.returns-in-Err-clause-err
 returns-in-Err-clause-err c =
     let takes : TakesListed c.args.decoder.now c.args.octet c.in_ok-first.first c.read_record.new.decoder = (c.requires, c.in_ok-first.ensures.ok) in
-    inl (first_fails takes c.in-Err.failure c.add_listed-added.new.writer c.in-Err.ensures.same.0 c.in-Err.ensures.err)
+    inl (first_fails takes c.in-Err.failure c.in-Err.ensures.err)
 
 pub set-init : goal.set-init
 set-init c =
@@ -19,8 +19,7 @@ pub returns-in-Err-added-clause-err : goal.returns-in-Err-added-clause-err
 returns-in-Err-added-clause-err c =
     let takes : TakesListed c.args.decoder.now c.args.octet c.in_ok-first.first c.read_record.new.decoder = (c.requires, c.in_ok-first.ensures.ok) in
     let next = c.in-Some.ensures.some in
-    inl (run_fails takes c.set.invariant c.in-Some.record c.next_of_set.new.decoder c.add_listed-added-in-Some.new.writer c.in-Err-added.failure
-    c.in-Err-added.ensures.same.0 next.0 next.1 c.in-Err-added.ensures.err)
+    inl (run_fails takes c.set.invariant c.in-Some.record c.next_of_set.new.decoder c.in-Err-added.failure next.0 next.1 c.in-Err-added.ensures.err)
 
 pub returns-in-Err-added-clause-kept : goal.returns-in-Err-added-clause-kept
 returns-in-Err-added-clause-kept c =

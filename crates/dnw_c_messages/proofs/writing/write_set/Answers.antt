@@ -1,31 +1,30 @@
 -- A set is added, left out, or fails.
-use Rattle.std.proofs.Common.{◌≡◌, ◌≢◌, ◌∙◌, true, inl, refl, rules, sym}
+use Rattle.std.proofs.Common.{◌≡◌, ◌≢◌, ◌∙◌, true, ap, inl, rules, sym}
 use Rattle.std.proofs.lemmas.Result.{on_ok_weaker}
 use Rattle.dnw_message_writer.specs.Needs.{is_uncut}
 use Rattle.dnw_message_writer.proofs.Opts.{if_err_as}
 use Rattle.dnw_c_base.specs.declared.failure.Failure.TheVariants.{MessageTooLong}
 use Rattle.dnw_c_messages.specs.ListCalls.{progress, set}
-use Rattle.dnw_c_messages.proofs.Runs.{lacks_item, set_fails, set_left_out, taken_message, taken_state}
+use Rattle.dnw_c_messages.specs.declared.halved.There.{There}
+use Rattle.dnw_c_messages.proofs.Runs.{lacks_item, set_fails, set_left_out, taken_message}
 use Rattle.dnw_c_messages.proofs.writing.write_set.Goals as goal
 
 pub returns-in-Ok-clause-ok : goal.returns-in-Ok-clause-ok
-returns-in-Ok-clause-ok c = set c.args.octet c.args.section c.requires.octet c.requires.open (rw c.again-ahead.ensures at c.in-Ok.ensures.ok) refl
+returns-in-Ok-clause-ok c =
+    set c.args.octet c.args.section c.requires.octet c.requires.open (rw c.again-ahead.ensures at c.in-Ok.ensures.ok)
+    (ap (λ (there : There). record c.args.left.now { start = there.start }) c.requires.there)
 
 pub returns-else-is_uncut-clause-ok : goal.returns-else-is_uncut-clause-ok
 returns-else-is_uncut-clause-ok c =
     let w = c.args.writer.now in
     let m = c.args.message.now in
-    let v = c.add_records.new.writer in
-    let n = c.add_records.new.message in
-    let same = c.in-Err-MessageTooLong.ensures.state in
-    let state = taken_state w v c.take_back.new.writer c.take_back.ensures.state same.0 same.1 in
-    let count = taken_message c.args.section w.end m n c.take_back.new.message c.two_at.result c.add_records.auto.message c.in-Err-MessageTooLong.ensures.kept
-    (rw (c.from.ensures, c.rank.ensures.value) at c.two_at.ensures) c.take_back.ensures.count in
+    let same = taken_message c.args.section w.end m c.add_records.new.message c.take_back.new.message c.two_at-count.result c.add_records.auto.message
+    c.in-Err-MessageTooLong.ensures.kept (rw (c.from.ensures, c.rank.ensures.value) at c.two_at-count.ensures) c.take_back.ensures.count in
     on_ok_weaker c.leave_out.result
-    (set_left_out c.args.purpose.now c.args.octet c.args.section (progress c.args.decoder.now w m c.args.left.now) c.requires.octet c.requires.open
-    c.leave_out.new.decoder v c.in-Err-MessageTooLong.field-0 c.take_back.new.writer c.take_back.new.message c.leave_out.new.left
+    (set_left_out c.args.purpose.now c.args.block c.args.octet c.args.section (progress c.args.decoder.now w m c.args.left.now) c.requires.octet c.requires.open
+    c.leave_out.new.decoder c.in-Err-MessageTooLong.field-0 c.take_back.new.writer c.take_back.new.message c.leave_out.new.left c.args.there c.requires.there
     (rw c.again-ahead.ensures at c.in-Err-MessageTooLong.ensures.err) c.in-Err-MessageTooLong.field-0-is
-    (sym c.is_uncut.ensures ∙ c.if-is_uncut.false) (state, count)) c.leave_out.ensures.ok
+    (sym c.is_uncut.ensures ∙ c.if-is_uncut.false) (c.take_back.ensures.state, same)) c.leave_out.ensures.ok
 
 pub returns-else-is_uncut-clause-err : goal.returns-else-is_uncut-clause-err
 returns-else-is_uncut-clause-err c =
@@ -36,8 +35,8 @@ returns-else-is_uncut-clause-err c =
 pub returns-then-is_uncut-clause-err : goal.returns-then-is_uncut-clause-err
 returns-then-is_uncut-clause-err c =
     let uncut : is_uncut c.args.purpose.now ≡ true = sym c.is_uncut.ensures ∙ c.if-is_uncut.true in
-    set_fails c.args.purpose.now c.args.octet c.args.section (progress c.args.decoder.now c.args.writer.now c.args.message.now c.args.left.now) c.requires.octet
-    c.requires.open c.add_records.new.writer MessageTooLong c.requires.begins
+    set_fails c.args.purpose.now c.args.block c.args.octet c.args.section (progress c.args.decoder.now c.args.writer.now c.args.message.now c.args.left.now) c.requires.octet
+    c.requires.open MessageTooLong c.requires.begins
     (rw (c.again-ahead.ensures, c.in-Err-MessageTooLong.field-0-is) at c.in-Err-MessageTooLong.ensures.err) (λ long. uncut)
 
 pub returns-in-Err : goal.returns-in-Err
@@ -45,7 +44,7 @@ returns-in-Err c =
     let other : c.in-Err.failure ≢ MessageTooLong = search rules in
     record {
       ok = tt;
-      err = set_fails c.args.purpose.now c.args.octet c.args.section (progress c.args.decoder.now c.args.writer.now c.args.message.now c.args.left.now)
-          c.requires.octet c.requires.open c.add_records.new.writer c.in-Err.failure c.requires.begins (rw c.again-ahead.ensures at c.in-Err.ensures.err)
+      err = set_fails c.args.purpose.now c.args.block c.args.octet c.args.section (progress c.args.decoder.now c.args.writer.now c.args.message.now c.args.left.now)
+          c.requires.octet c.requires.open c.in-Err.failure c.requires.begins (rw c.again-ahead.ensures at c.in-Err.ensures.err)
           (λ long. absurd (other long));
     }

@@ -2,16 +2,12 @@
 use Rattle.std.proofs.Common.{◌≡◌, ℕ, ◌-◌, List, drop, length, map, take, sym, ap, ◌∙◌, arith, length-append}
 use Rattle.std.specs.Char.{to_ascii_lowercase}
 use Rattle.std.specs.Bool.{Decides, one_answer}
-use Rattle.std.specs.Cmp.{unsigned_Decides}
-use Rattle.std.specs.Cmp.Lexicographic.{pointwise_decides}
 use Rattle.std.proofs.lemmas.List.{drop_at, length-map, take-append-drop}
 use Rattle.dnw_base.specs.Names.{lower}
-use Rattle.dnw_name_order.specs.Order.{IsZoneOf, labels_eq}
+use Rattle.dnw_name_order.specs.Order.{IsZoneOf}
 use Rattle.dnw_message_writer.specs.Needs.{is_below}
+use Rattle.dnw_message_writer.proofs.Owners.{labels_Decides}
 use Rattle.dnw_message_writer.proofs.needs.is_below.Goals as goal
-
-labels_Decides : (xs ys : List (List ℕ)) → Decides (labels_eq xs ys) (xs ≡ ys)
-labels_Decides = pointwise_decides (pointwise_decides unsigned_Decides)
 
 lower_size : (ls : List (List ℕ)) → length (lower ls) ≡ length ls
 lower_size ls = length-map ls (map to_ascii_lowercase)

@@ -1,0 +1,58 @@
+//! Sets of records of a list of which a part is written, and a part is left out (RFC 2181, section 9).
+ghost use Rattle.std.specs.Prelude.{false};
+ghost use Rattle.dnw_c_base.specs.Offsets.{at_offset};
+ghost use Rattle.dnw_c_messages.specs.ListCalls.{IsHalfListed, IsHalved};
+
+use crate::filling::list_at;
+use crate::listed::read_record;
+use dnw_message_writer::halves::{are_the_same, or_halves};
+use dnw_record::record_ref::RecordRef;
+
+/// How many pairs of records are compared at most.
+pub(crate) const MOST_PAIRS: u16 = 4096;
+
+/// The records of a section that are there: the offset in the list at which they begin, and how many there are.
+#[derive(Clone, Copy)]
+pub(crate) struct There {
+    pub(crate) start: usize,
+    pub(crate) count: u16,
+}
+
+/// Returns `true` if half of the set of a record that is left out may be there. So many pairs of records may be compared.
+pub(crate) fn is_halved(pairs: u16, there: There, list: &[u8], item: &RecordRef<'_>) -> bool
+    ensures { IsHalved pairs there list.now item.now result }
+{
+    if pairs < there.count {
+        return true;
+    }
+    is_half_listed(there.count, list, there.start, item)
+}
+
+/// Returns `true` if one of so many records of a list, from an offset on, halves the set of another that is left out, and none of them
+/// is the same.
+fn is_half_listed(count: u16, list: &[u8], start: usize, item: &RecordRef<'_>) -> bool
+    ensures { IsHalfListed count (at_offset list.now start) item.now false result }
+{
+    if count == 0 {
+        return false;
+    }
+    let Some(mut decoder) = list_at(list, start) else {
+        return true;
+    };
+    let mut more = count;
+    let mut half = false;
+    'there: while more > 0 {
+        if decoder.is_empty() {
+            return true;
+        }
+        let Ok(record) = read_record(&mut decoder) else {
+            return true;
+        };
+        if are_the_same(&record, item) {
+            return false;
+        }
+        half = or_halves(half, &record, item);
+        more -= 1;
+    }
+    half
+}
