@@ -1,9 +1,8 @@
 """What was refused, so that it need not be tried again: `.ci/refused` has a line for each edit, with its name, a key, and how it was refused.
 
-A key is a sum over all that a refusal rests on: the edit; the code, specs and proofs of its crate; what the crates below show to
-them, without the functions that none of all this names; the specs and proofs there that these and the crate import, and what those
-import; what the crate's line in crates.txt says; the toolchain's logic; and the files of this tool. Kits of one logic differ in their
-search alone: that what one refuses is refused by the next too is seen by the edits that each run tries."""
+A key is a sum over all that a refusal rests on: the edit; what rests.py finds of the edit's crate and those below it; what the crate's line
+in crates.txt says; the toolchain's logic; and the files of this tool. Kits of one logic differ in their search alone: that what one
+refuses is refused by the next too is seen by the edits that each run tries."""
 
 import functools
 import hashlib
@@ -11,10 +10,9 @@ import re
 import subprocess
 import threading
 
-from crates import ROOT, below, listed
+from crates import ROOT, listed
 
-from wrong_bodies.edits import texts_of
-from wrong_bodies.source import Shown
+from wrong_bodies.rests import rests_on
 
 FILE = ROOT / ".ci" / "refused"
 # What judges edits. If one of these files changes, what was recorded counts for nothing.
@@ -42,63 +40,9 @@ def judged_by():
     return sum_of(re.search(r"\blogic \w+", said)[0], *(file.read_text(encoding="utf-8") for file in JUDGES))
 
 
-@functools.lru_cache(maxsize=None)
-def shown_by(crate):
-    """What a crate's files of code show to those above it, by their paths in the repository."""
-    return {f"crates/{crate}/{path}": Shown(text) for path, text in texts_of(crate).items() if path.startswith("src/")}
-
-
-@functools.lru_cache(maxsize=None)
-def words_in(text):
-    return frozenset(re.findall(r"\w+", text))
-
-
-@functools.lru_cache(maxsize=None)
-def imported_by(text):
-    """The files of specs and proofs that a text imports."""
-    found = re.findall(r"\bRattle\.(\w+)\.((?:specs|proofs)(?:\.\w+)*)", text)
-    files = {f"crates/{crate}/{module.replace('.', '/')}.antt" for crate, module in found}
-    return {file for file in files if (ROOT / file).is_file()}
-
-
-def reached_from(texts):
-    """The files of specs and proofs that texts import, and what these import, and so on."""
-    found, new = {}, set().union(*map(imported_by, texts))
-    while new:
-        found.update((file, (ROOT / file).read_text(encoding="utf-8")) for file in new)
-        new = set().union(*(imported_by(found[file]) for file in new)) - set(found)
-    return found
-
-
-def below_of(crate, words):
-    """The texts that a crate may rest on of those below it, if it and its edit have these words."""
-    shown = {path: it for other in below(crate, listed()) for path, it in shown_by(other).items()}
-    own, found, words = tuple(texts_of(crate).values()), {}, set(words).union(*map(words_in, texts_of(crate).values()))
-    while True:
-        found = {path: it.to(words) for path, it in shown.items()}
-        found.update(reached_from((*own, *found.values())))
-        more = words.union(*map(words_in, found.values()))
-        if more == words:
-            return found
-        words = more
-
-
-@functools.lru_cache(maxsize=None)
-def rests_on(crate, words=frozenset()):
-    """The sum of all that the refusals of a crate's edits rest on, but the edits. `words` are those that only the edit has."""
-    parts = [part for texts in (texts_of(crate), below_of(crate, words)) for pair in sorted(texts.items()) for part in pair]
-    return sum_of(judged_by(), crate, *sorted(listed()[crate]), *parts)
-
-
-@functools.lru_cache(maxsize=None)
-def names_below(crate):
-    """The names of the functions that the crates below show, but those that the crate itself has."""
-    names = {name for other in below(crate, listed()) for it in shown_by(other).values() for name, _ in it.functions}
-    return names.difference(*map(words_in, texts_of(crate).values()))
-
-
 def key_of(edit):
-    return sum_of(rests_on(edit.crate, words_in(edit.text) & names_below(edit.crate)), edit.text)[:32]
+    parts = [part for pair in sorted(rests_on(edit).items()) for part in pair]
+    return sum_of(judged_by(), edit.crate, *sorted(listed()[edit.crate]), *parts, edit.text)[:32]
 
 
 class Record:
