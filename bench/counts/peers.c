@@ -1,6 +1,6 @@
 /* peers LIBRARY ROW COUNT: does what the row of rows.c does so many times, by libknot or by ldns, over the same inputs, and prints a sum
-   of the results: that of rows.c, but where texts and compression differ. Without words, it prints the libraries and their rows. libknot gets its memory
-   from a pool that is used again, as in its servers. */
+   of the results: that of rows.c, but where texts and compression differ. Without words, it prints the libraries and their rows. libknot is used as its
+   servers use it: memory from a pool that is used again, names as they are in the message, and hints for compression. */
 #include <ldns/ldns.h>
 #include <libknot/libknot.h>
 #include <libzscanner/scanner.h>
@@ -70,7 +70,7 @@ static knot_pkt_t *knot_parsed(void)
 {
     used = 0;
     knot_pkt_t *packet = knot_pkt_new((void *)RESPONSE, RESPONSE_LEN, &memory);
-    must(knot_pkt_parse(packet, 0) == KNOT_EOK);
+    must(knot_pkt_parse(packet, KNOT_PF_NOCANON) == KNOT_EOK);
     return packet;
 }
 
@@ -101,16 +101,45 @@ static void knot_pack(void)
     sum += made->size;
 }
 
-/* The sets of a response, made before: successive records of one owner and type. */
+/* The sets of a response, made before: successive records of one owner and type. Of each, where its owner is already: nowhere, the question,
+   or a set before it, as its owner (0) or in the data of its record of that number, from 1. */
+enum { NOWHERE = -1, QUESTION = -2 };
 struct sets {
     knot_rrset_t all[16];
     uint16_t sections[16];
+    int near[16], part[16];
     size_t count;
 };
 static struct sets answer, referral, nxdomain;
 
-static void make_sets(struct sets *sets, const struct given *records, size_t count)
+/* In which record of an NS or MX set a name stands, from 1, or 0. */
+static int part_with(const knot_rrset_t *set, const knot_dname_t *name)
 {
+    if (set->type != KNOT_RRTYPE_NS && set->type != KNOT_RRTYPE_MX)
+        return 0;
+    knot_rdata_t *data = set->rrs.rdata;
+    for (int n = 1; n <= set->rrs.count && n < KNOT_COMPR_HINT_COUNT; n++, data = knot_rdataset_next(data))
+        if (knot_dname_is_equal(data->data + (set->type == KNOT_RRTYPE_MX ? 2 : 0), name))
+            return n;
+    return 0;
+}
+
+/* What knotd knows of the owner of a set: it is that of the question, of the set that a signature covers, or of a server that was named. */
+static void find_near(struct sets *sets, size_t i, const knot_dname_t *asked)
+{
+    const knot_rrset_t *set = &sets->all[i];
+    sets->near[i] = knot_dname_is_equal(set->owner, asked) ? QUESTION : NOWHERE;
+    sets->part[i] = 0;
+    if (set->type == KNOT_RRTYPE_RRSIG && i > 0 && sets->near[i] == NOWHERE && knot_dname_is_equal(sets->all[i - 1].owner, set->owner))
+        sets->near[i] = (int)i - 1;
+    for (size_t k = 0; sets->sections[i] == 4 && sets->near[i] == NOWHERE && k < i; k++)
+        if ((sets->part[i] = part_with(&sets->all[k], set->owner)) != 0)
+            sets->near[i] = (int)k;
+}
+
+static void make_sets(struct sets *sets, const knot_dname_t *query, const struct given *records, size_t count)
+{
+    const knot_dname_t *asked = query + KNOT_WIRE_HEADER_SIZE;
     for (const struct given *it = records; it < records + count; it++) {
         knot_rrset_t *last = sets->count > 0 ? &sets->all[sets->count - 1] : NULL;
         if (last == NULL || last->type != it->type || !knot_dname_is_equal(last->owner, it->owner)) {
@@ -119,6 +148,17 @@ static void make_sets(struct sets *sets, const struct given *records, size_t cou
             knot_rrset_init(last, (knot_dname_t *)it->owner, it->type, 1, 3600);
         }
         must(knot_rrset_add_rdata(last, it->data, (uint16_t)it->data_len, NULL) == KNOT_EOK);
+    }
+    for (size_t i = 0; i < sets->count; i++)
+        find_near(sets, i, asked);
+}
+
+static uint16_t hint_of(const struct sets *sets, size_t i, const knot_pkt_t *made)
+{
+    switch (sets->near[i]) {
+    case QUESTION: return KNOT_COMPR_HINT_QNAME;
+    case NOWHERE: return KNOT_COMPR_HINT_NONE;
+    default: return knot_compr_hint(&made->rr_info[sets->near[i]], (uint16_t)sets->part[i]);
     }
 }
 
@@ -135,7 +175,7 @@ static void knot_respond(const uint8_t *asked, size_t len, bool is_authoritative
     for (size_t i = 0; i < sets->count; i++) {
         for (; section + 2 < sets->sections[i]; section++)
             knot_pkt_begin(made, section + 1);
-        must(knot_pkt_put(made, KNOT_COMPR_HINT_NONE, &sets->all[i], 0) == KNOT_EOK);
+        must(knot_pkt_put(made, hint_of(sets, i, made), &sets->all[i], 0) == KNOT_EOK);
     }
     for (; section < KNOT_ADDITIONAL; section++)
         knot_pkt_begin(made, section + 1);
@@ -310,9 +350,9 @@ int main(int argc, char **argv)
         {"record-print", knot_print, ldns_print}, {"8-records-parse", knot_lines, ldns_lines}, {"8-entries-read", knot_lines, ldns_lines},
     };
     begin();
-    make_sets(&answer, ANSWER, COUNT(ANSWER));
-    make_sets(&referral, REFERRAL, COUNT(REFERRAL));
-    make_sets(&nxdomain, NXDOMAIN, COUNT(NXDOMAIN));
+    make_sets(&answer, QUERY_HOST, ANSWER, COUNT(ANSWER));
+    make_sets(&referral, QUERY_CHILD, REFERRAL, COUNT(REFERRAL));
+    make_sets(&nxdomain, QUERY_NONE, NXDOMAIN, COUNT(NXDOMAIN));
     for (size_t i = 0; i < sizeof rows / sizeof rows[0]; i++)
         if (argc != 4)
             printf(rows[i].ldns == NULL ? "libknot %s\n" : "libknot %s\nldns %s\n", rows[i].name, rows[i].name);
