@@ -41,7 +41,7 @@ def judged_by():
 
 
 def key_of(edit):
-    parts = [part for pair in sorted(rests_on(edit).items()) for part in pair]
+    parts = [part for pair in sorted(rests_on(edit)) for part in pair]
     return sum_of(judged_by(), edit.crate, *sorted(listed()[edit.crate]), *parts, edit.text)[:32]
 
 

@@ -1,9 +1,8 @@
 """What the refusal of an edit rests on: the texts from which its trial takes the goals of the functions that it changes.
 
-A trial takes each function that these call by its contract. So it rests on the functions as they are, with their hand-written proofs; on
-macros and the contracts of traits' methods of their crate and of those below it; on the types and constants there, and on the contracts
-of functions, that are named; and on the files of specs and proofs that all these import. What is named or imported there counts
-too, and so on."""
+A trial takes each function that these call by its contract. So it rests on the functions as they are, with their hand-written proofs, and
+on what they name, here and in the crates below: contracts of functions, types, constants, macros, and of the types what they implement;
+on what these name in turn; and on the files of specs and proofs that all of them import."""
 
 import functools
 import re
@@ -11,7 +10,12 @@ import re
 from crates import ROOT, below, listed
 
 from wrong_bodies.edits import Crate, texts_of
-from wrong_bodies.source import IMPORT, Shown, functions_of, is_named, without_comments
+from wrong_bodies.source import IMPORT, functions_of, is_named, type_of, without_comments
+
+texts_of = functools.lru_cache(maxsize=None)(texts_of)
+VISIBLE = r"(?:pub(?:\([\w: ]+\))? )?"
+NAMED = re.compile(rf"{VISIBLE}(?:ghost )?(?:struct|enum|union|const|static|type|trait|macro_rules!) (\w+)")
+FUNCTION = re.compile(rf"{VISIBLE}(?:const )?(?:unsafe )?(?:extern \"C\" )?fn \w+")
 
 
 @functools.lru_cache(maxsize=None)
@@ -19,144 +23,230 @@ def words_in(text):
     return frozenset(re.findall(r"\w+", text))
 
 
-class Own(Shown):
-    """What a file shows to the functions of its own crate: private functions too, and whole those whose first lines are given, those
-    that are constant, which a type may name, and all in a file with macros."""
-
-    def __init__(self, text, whole=frozenset()):
-        lines, self.functions = text.split("\n"), []
-        for function in functions_of("", text) if "macro_rules!" not in text else []:
-            if function.first in whole or re.search(r"\bconst\b.*\bfn\b", lines[function.first]):
-                continue
-            is_of_trait = re.search(r"\btrait\b|\bfor\b", function.head)
-            has_body = function.body < function.last
-            if not is_of_trait:
-                self.functions.append((function.name, without_comments(lines[function.top : function.body if has_body else function.last + 1])))
-            start = function.body if is_of_trait else function.top
-            if not is_of_trait or has_body:
-                lines[start : function.last + 1] = [""] * (function.last + 1 - start)
-        self.keep(lines)
-
-    def keep(self, lines):
-        """Keeps the rest of the file, and its imports by the names that they bring."""
-        shown = without_comments(lines)
-        self.rest = IMPORT.sub("", shown)
-        self.imports = [(path, name) for path, names in IMPORT.findall(shown) for name in re.findall(r"[^\s,][^,]*", names or path)]
+def items_of(text):
+    """The items of a file, which is in the layout of `rt fmt`, as ranges of lines. An item begins with its attributes."""
+    lines, start = text.split("\n"), None
+    for at, line in enumerate(lines):
+        if not line or line[0].isspace() or line.startswith("//"):
+            continue
+        start = at if start is None else start
+        is_over = line[0] == "}" or not line.startswith("#[") and line.endswith((";", "}"))
+        if is_over or line.startswith("#!["):
+            yield start, at
+            start = None
 
 
-NAMED = re.compile(r"(?:pub(?:\([\w: ]+\))? )?(?:struct|enum|const|static) (\w+)")
+def index(pairs):
+    found = {}
+    for key, value in pairs:
+        found.setdefault(key, []).append(value)
+    return found
 
 
-def split(file):
-    """The file with its types and constants among its functions, so that they count if they are named. A module's name counts nowhere, as
-    its file is looked at."""
-    if "macro_rules!" in file.rest:
-        return file
-    rest, item, name = [], [], ""
-    for line in file.rest.split("\n"):
-        found = None if name else NAMED.match(line)
-        if found or name or line.startswith("#["):
-            item.append(line)
-            name = found[1] if found else name
-            is_last = line.endswith((";", "}")) if found else line.startswith(("}", "]", ")"))
-            if name and is_last:
-                file.functions.append((name, "\n".join(item)))
-                item, name = [], ""
+class File:
+    """The parts of a file of code: each with the words that a text must have to rest on it, and its own text. Of a function it is the
+    contract, and the whole of those whose first lines are given, and of constant ones, which a type may name. A crate above sees no
+    private function."""
+
+    def __init__(self, text, is_below, whole=frozenset()):
+        self.lines, self.parts, self.is_below, self.whole = text.split("\n"), [], is_below, whole
+        found = [(path, name) for path, names in IMPORT.findall(text) for name in re.findall(r"[^\s,][^,]*", names or path)]
+        self.imports = [it for it in found if not it[0].startswith(("Rattle.std.", "std::"))]
+        functions = functions_of("", text)
+        for first, last in items_of(text):
+            self.take(first, last, [it for it in functions if first <= it.first <= last])
+        # By each word that a part needs, which parts need it.
+        self.needing = index((word, it) for it in self.parts for word in it[0])
+
+    def take(self, first, last, functions):
+        """Takes the parts of an item."""
+        head = next((it for it in self.lines[first : last + 1] if not it.startswith(("#[", "//"))), "")
+        if re.match(rf"(ghost )?use |{VISIBLE}mod \w+;", head) or "#[cfg(test)]" in self.lines[first : last + 1]:
+            return
+        named = NAMED.match(head)
+        if re.match(r"(unsafe )?impl\b", head):
+            self.take_impl(first, last, functions, head)
+        elif named and "macro_rules!" not in head:
+            self.add({named[1]}, first, last, functions)
+        elif FUNCTION.match(head) and len(functions) == 1:
+            self.add_function({functions[0].name}, functions[0])
         else:
-            rest += [*item, line]
-            item = []
-    file.rest = re.sub(r"^(?:pub )?mod \w+;\n?", "", "\n".join([*rest, *item]), flags=re.M)
-    return file
+            self.add({named[1]} if named else set(), first, last, [])
+
+    def take_impl(self, first, last, functions, head):
+        """Of a trait its methods go with it, since operators and `for` call them without a name. Others count if they are named."""
+        own = type_of(head)
+        # What is implemented for any type has a parameter there.
+        needed = set() if re.fullmatch(r"[A-Z]\d?", own) else {own}
+        if re.search(r"\bfor\b", head):
+            self.add(needed, first, last, functions)
+            return
+        kept = [at for at in range(first, last + 1) if not any(it.top <= at <= it.last for it in functions)]
+        text = without_comments([self.lines[at] for at in kept])
+        if not re.fullmatch(r"[^\n]*\{\s*\}", text):
+            self.parts.append(({own}, text))
+        for function in functions:
+            self.add_function({own, function.name}, function)
+
+    def add_function(self, words, function):
+        line = self.lines[function.first]
+        if not self.is_below or re.match(r" *pub (?!\()", line):
+            self.add(words, function.top, function.last, [function])
+
+    def add(self, words, first, last, functions):
+        """Adds lines without the bodies of functions."""
+        hidden = {at for it in functions if it.body < it.last and not self.is_whole(it) for at in range(it.body, it.last + 1)}
+        words = set() if any(it.first in self.whole for it in functions) else words
+        self.parts.append((words, without_comments([self.lines[at] for at in range(first, last + 1) if at not in hidden])))
+
+    def is_whole(self, function):
+        return function.first in self.whole or re.search(r"\bconst\b.*\bfn\b", self.lines[function.first])
 
 
 @functools.lru_cache(maxsize=None)
-def shown_by(crate):
-    """What a crate's files of code show to those above it, by their paths in the repository."""
-    return {f"crates/{crate}/{path}": split(Shown(text)) for path, text in texts_of(crate).items() if path.startswith("src/")}
+def file_of(crate, path, is_below, whole=frozenset()):
+    return File(texts_of(crate)[path], is_below, whole)
+
+
+# What stands before the name of a definition.
+BEFORE = {"pub", "abbrev", "unfoldable", "record", "data", "module", "instance"}
+SPLIT = re.compile(r"[^\s(){}\[\],;]+")
+PATH = re.compile(r"Rattle\.(\w+)\.((?:specs|proofs)[\w.+]*)")
 
 
 @functools.lru_cache(maxsize=None)
-def own_file(crate, path, whole=frozenset()):
-    return split(Own(texts_of_once(crate)[path], whole))
+def names_in(text):
+    """The names in a text of specs or proofs, and the parts of those with dots. An operator is there without the places for its operands."""
+    found = set(SPLIT.findall(text))
+    return frozenset(found | {part for it in found for part in re.split(r"[.:◌]", it)})
 
 
-@functools.lru_cache(maxsize=None)
-def texts_of_once(crate):
-    return texts_of(crate)
+class Antt:
+    """A file of specs or proofs: its definitions, each with its names and its text, and what it imports, each with its names here, the files
+    where it may be, the words of its path, and whether it is there for others."""
+
+    def __init__(self, text):
+        self.definitions, self.imports = [], []
+        name, lines, before = None, [], []
+        for line in text.split("\n"):
+            word = next((it for it in SPLIT.findall(line) if it not in BEFORE), "")
+            if re.match(r"(pub )?use ", line):
+                self.take_import(line)
+            elif not line or line.startswith("--") or re.match(r"(pub )?mod ", line):
+                continue
+            elif line.startswith("unfolding "):
+                before.append(line)
+            elif line[0] in " )}]" or word == name:
+                lines += [*before, line]
+                before = []
+            else:
+                self.end(name, lines)
+                name, lines, before = word, [*before, line], []
+        self.end(name, lines)
+        self.named = index((it, definition) for definition in self.definitions for it in definition[0])
+
+    def end(self, name, lines):
+        """Takes a definition. What has parts is known by their names too."""
+        if lines:
+            has_parts = re.match(r"(?:abbrev |pub )*(?:record|data|module) ", lines[-1] if len(lines) == 1 else lines[0])
+            parts = {it for line in lines[1:] for it in SPLIT.findall(line)[:2]} if has_parts else set()
+            names = {name, *(name or "").split("◌"), *parts} - {"", None, "pub", ":"}
+            self.definitions.append((frozenset(names), "\n".join(lines)))
+
+    def take_import(self, line):
+        path, _, rest = line.partition("use ")[2].partition("{")
+        found = PATH.match(path)
+        if found:
+            module = found[2].strip(".").split(".")
+            files = [f"crates/{found[1]}/{'/'.join(module[:size])}.antt" for size in range(len(module), 1, -1)]
+            alias = re.search(r" as (\S+)$", path.strip())
+            named = [it.strip() for it in rest.rstrip("} ").split(",")] if rest else [f"{module[-1]} as {alias[1]}" if alias else module[-1]]
+            for it in named:
+                name, _, here = it.partition(" as ")
+                found = [file for file in files if (ROOT / file).is_file()]
+                self.imports.append((names_in(here or name), name, found, frozenset(module), line.startswith("pub ")))
 
 
 @functools.lru_cache(maxsize=None)
 def antt(path):
-    return (ROOT / path).read_text(encoding="utf-8")
+    return Antt((ROOT / path).read_text(encoding="utf-8"))
 
 
-@functools.lru_cache(maxsize=None)
 def imported_by(text):
-    """The files of specs and proofs that a text imports, also by the name of something in them."""
-    found = set()
-    for crate, module in re.findall(r"\bRattle\.(\w+)\.((?:specs|proofs)(?:\.\w+)*)", text):
-        parts = module.split(".")
+    """The files of specs and proofs that a line of code imports from."""
+    for crate, module in PATH.findall(text):
+        parts = module.strip(".").split(".")
         paths = (f"crates/{crate}/{'/'.join(parts[:size])}.antt" for size in range(len(parts), 1, -1))
-        found.update(path for path in paths if (ROOT / path).is_file())
-    return frozenset(found)
+        yield from (path for path in paths if (ROOT / path).is_file())
 
 
 class Reached:
-    """What is reached from some texts: items by their names, and all words in them."""
+    """What is reached from a function: texts by the files that have them. `names` are those that may stand for a definition, and `words` those that
+    may stand for something in code."""
 
-    def __init__(self, other=None):
-        self.items = dict(other.items) if other else {}
-        self.words = set(other.words) if other else set()
-        # The words of what is taken of each file of code, by which its imports are chosen.
-        self.of_file = {path: set(words) for path, words in other.of_file.items()} if other else {}
+    def __init__(self, files, text):
+        self.files, self.items, self.words, self.names = files, set(), set(words_in(text)), set(names_in(text))
+        # The words of what is taken of each file of code, and the names of what is taken of each other file, by which their imports are chosen.
+        self.of_code, self.of_antt = {path: set() for path in files}, {}
 
-    def add(self, name, text):
-        """Adds a text, and the files that it imports."""
-        if self.items.get(name) == text:
-            return
-        self.items[name] = text
-        self.words |= words_in(text)
-        for path in imported_by(text):
-            if path not in self.items:
-                self.add(path, antt(path))
+    def add_antt(self, path, text):
+        """Adds a definition."""
+        if (path, text) not in self.items:
+            self.items.add((path, text))
+            self.names |= names_in(text)
+            self.of_antt.setdefault(path, set()).update(names_in(text))
 
-    def add_part(self, path, name, text):
-        self.add(f"{path} {name} {text}", text)
-        self.of_file.setdefault(path, set()).update(words_in(text))
+    def add_whole(self, path):
+        for _, text in antt(path).definitions:
+            self.add_antt(path, text)
 
-    def close(self, files):
-        """Adds what is named in files of code, until nothing more is named."""
-        for path, file in files.items():
-            self.add_part(path, "", file.rest)
-        before = -1
-        while before != len(self.items):
-            before = len(self.items)
-            for path, file in files.items():
-                for name, text in file.functions:
-                    if name in self.words:
-                        self.add_part(path, name, text)
-                named = self.of_file[path]
-                for source, name in file.imports:
-                    if is_named(name, named):
-                        self.add(f"{path} use {source} {name}", f"use {source} {name}")
-        return self
+    def add_code(self, path, text):
+        if (path, text) not in self.items:
+            self.items.add((path, text))
+            self.words |= words_in(text)
+            self.names |= names_in(text)
+            self.of_code[path] |= words_in(text)
+            for other in imported_by(text):
+                self.of_antt.setdefault(other, set())
 
+    def look_in_code(self, words):
+        """Adds what new words name."""
+        for path, file in self.files.items():
+            for word in words & file.needing.keys():
+                for needed, text in file.needing[word]:
+                    if needed <= self.words:
+                        self.add_code(path, text)
+            for source, name in file.imports if self.of_code[path] else ():
+                if is_named(name, self.of_code[path]):
+                    self.add_code(path, f"use {source} {name}")
 
-@functools.lru_cache(maxsize=None)
-def files_below(crate):
-    return {path: it for other in sorted(below(crate, listed())) for path, it in shown_by(other).items()}
+    def look_in_antt(self, names, known):
+        """Adds what new names stand for, in files that were looked at, and what any name stands for in others."""
+        for path in list(self.of_antt):
+            file, looked_for = antt(path), names if path in known else self.names
+            for name in looked_for & file.named.keys():
+                for _, text in file.named[name]:
+                    self.add_antt(path, text)
+            for here, name, files, module, is_passed_on in file.imports:
+                if not here.isdisjoint(self.names if is_passed_on else self.of_antt[path]):
+                    self.names |= names_in(name)
+                    self.words |= module
+                    for other in files:
+                        self.of_antt.setdefault(other, set())
 
-
-def own_files(crate, whole):
-    """The crate's own files of code, with the functions that are given whole, by their files and first lines."""
-    paths = [path for path in texts_of_once(crate) if path.startswith("src/")]
-    return {f"crates/{crate}/{path}": own_file(crate, path, frozenset(first for file, first in whole if file == path)) for path in paths}
-
-
-@functools.lru_cache(maxsize=None)
-def common_to(crate):
-    """What each edit of a crate rests on."""
-    return Reached().close({**files_below(crate), **own_files(crate, ())})
+    def close(self):
+        """Adds what is named, until nothing more is."""
+        for path, file in self.files.items():
+            for needed, text in file.parts:
+                if not needed:
+                    self.add_code(path, text)
+        words, names, known = set(), set(), set()
+        while (words, names, known) != (self.words, self.names, self.of_antt.keys()):
+            new_words, new_names, before = self.words - words, self.names - names, known
+            words, names, known = set(self.words), set(self.names), set(self.of_antt)
+            self.look_in_code(new_words)
+            self.look_in_antt(new_names, before)
+        return self.items
 
 
 @functools.lru_cache(maxsize=None)
@@ -167,20 +257,23 @@ def placed(crate):
 
 
 def rests_on(edit):
-    """What the refusal of an edit rests on, as pairs of a name and a text. If more than functions may change, or it cannot be applied, it is
+    """What the refusal of an edit rests on, as pairs of a file and a text. If more than functions may change, or it cannot be applied, it is
     the whole crate."""
     crate, edits = placed(edit.crate)
     known = edits.get(edit.label)
-    reached = Reached(common_to(edit.crate))
-    if known is None or known.is_alone:
-        for path, text in crate.texts.items():
-            reached.add(f"crates/{edit.crate}/{path}", text)
-        whole = ()
-    else:
-        whole = {(path, it.first) for path, found in crate.functions.items() for it in found if it in known.functions}
-        folders = ["/".join(["proofs", *parts, ""]) for it in known.functions for parts in it.folders()]
-        for path, text in crate.texts.items():
-            if path.startswith(tuple(folders)):
-                reached.add(f"crates/{edit.crate}/{path}", text)
-    reached.words |= words_in(edit.text)
-    return reached.close({**files_below(edit.crate), **own_files(edit.crate, whole)}).items
+    is_known = known is not None and not known.is_alone
+    changed = known.functions if is_known else crate.all_functions()
+    whole = {(path, it.first) for path, found in crate.functions.items() for it in found if it in changed}
+    files = {f"crates/{other}/{path}": file_of(other, path, True) for other in sorted(below(edit.crate, listed())) for path in sources(other)}
+    for path in sources(edit.crate):
+        files[f"crates/{edit.crate}/{path}"] = file_of(edit.crate, path, False, frozenset(first for file, first in whole if file == path))
+    reached = Reached(files, edit.text)
+    folders = tuple("/".join(["proofs", *parts, ""]) for it in changed for parts in it.folders())
+    for path in crate.texts:
+        if path.startswith(folders) or not is_known and not path.startswith("src/"):
+            reached.add_whole(f"crates/{edit.crate}/{path}")
+    return reached.close()
+
+
+def sources(crate):
+    return [path for path in texts_of(crate) if path.startswith("src/")]
