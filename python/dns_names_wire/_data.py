@@ -183,11 +183,11 @@ class Data(Value):
 
     def __init_subclass__(cls, code: Optional[int] = None) -> None:
         super().__init_subclass__()
-        cls._code = code
-        if cls._names:
-            cls._kinds = "".join([_letter(cls.__annotations__[name]) for name in cls._names])
         if code is not None:
-            CLASSES[code] = cls
+            cls._code, CLASSES[code] = code, cls
+        own = cls.__annotations__
+        if cls._names and cls._names[0] in own:
+            cls._kinds = "".join([_letter(own[name]) for name in cls._names])
 
     if not TYPE_CHECKING:
 

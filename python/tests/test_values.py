@@ -48,6 +48,14 @@ class Classes(unittest.TestCase):
         for make in wrong:
             self.assertRaises(TypeError, make)
 
+    def test_a_subclass_is_of_its_type(self) -> None:
+        class Mail(MX):
+            pass
+
+        mail = Mail(10, "a.")
+        self.assertEqual((mail.to_wire(), repr(mail).split("(")[0], mail.record_type), (MX(10, "a.").to_wire(), mail.__class__.__qualname__, 15))
+        self.assertNotEqual(mail, MX(10, "a."))
+
     def test_a_star_import_has_every_public_name(self) -> None:
         room: dict = {}
         exec("from dns_names_wire import *", room)
