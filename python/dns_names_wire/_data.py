@@ -10,7 +10,7 @@ from ._checks import Bytes
 from ._codes import RecordType, code_of
 from ._errors import DataTooLong, check, check_fault, check_utf8
 from ._library import FORM_SIZE, NO_ROOM, PrintedRecord, library, taken
-from ._names import Name, check_ascii, whole_name, wire_of
+from ._names import Name, check_ascii, whole_name, whole_wire, wire_of
 from ._table import ALONE_SIZE, FieldValue, Prefix, table_of
 from ._types import TypeSet
 from ._values import Value, dataclass
@@ -49,9 +49,7 @@ _OTHER_LETTERS = bytes(octet if octet < 128 else ord("x") for octet in range(256
 
 
 def _parsed(parse: Callable[..., int], find: Callable[..., int], text: bytes, origin: Optional[Name]) -> bytes:
-    wire, size, length = b"", _USUAL_SIZE, c_size_t()
-    if origin is not None:
-        wire, _ = wire_of("origin", origin)
+    wire, size, length = b"" if origin is None else whole_wire("origin", origin), _USUAL_SIZE, c_size_t()
     while True:
         room = (c_char * size)()
         number = parse(text, len(text), wire, len(wire), room, size, byref(length))

@@ -98,14 +98,15 @@ class Name:
         A name with a dot at its end is fully qualified, and `.` is the root. Any other name is completed by the origin,
         if there is one, and is fully qualified then; else it is relative. `@` is the origin, or the relative name
         without labels. Raises `EmptyLabel` (also for an empty text), `LabelTooLong`, `NameTooLong`, `BadEscape` or
-        `TextCut` if the text is not a name, with the offset and the rule, and `IllegalCharacter` if it is not ASCII.
+        `TextCut` if the text is not a name, with the offset and the rule, `IllegalCharacter` if it is not ASCII, and
+        `ValueError` if the origin is relative.
 
         >>> Name.from_text("www", Name("example."))
         Name('www.example.')
         >>> Name.from_text("a\\\\032b\\\\.c.").labels
         (b'a b.c',)
         """
-        encoded, own = _checks.text("text", text), b"" if origin is None else wire_of("origin", origin)[0]
+        encoded, own = _checks.text("text", text), b"" if origin is None else whole_wire("origin", origin)
         check_ascii(encoded)
         form, parsed = Form(), ParsedName()
         failure = library.dnw_name_parse(encoded, len(encoded), own, len(own), form, FORM_SIZE, byref(parsed))
@@ -442,10 +443,16 @@ def wire_of(what: str, name: object) -> Tuple[bytes, int]:
 def whole_name(what: str, name: object) -> Name:
     """Returns an argument that has to be a fully qualified name, or its text. The result is of no subclass."""
     own = Name.from_text(name) if isinstance(name, str) else name
-    wire, _ = wire_of(what, own)
-    if not _get_is_fqdn(own):  # type: ignore[arg-type]
-        raise ValueError(f"{what}: {own} is relative; Name.absolute or an origin completes it")
+    wire = whole_wire(what, own)
     return own if type(own) is Name else Name._of(wire, True)
+
+
+def whole_wire(what: str, name: object) -> bytes:
+    """Returns the wire form of an argument that has to be a fully qualified name."""
+    wire, _ = wire_of(what, name)
+    if not _get_is_fqdn(name):  # type: ignore[arg-type]
+        raise ValueError(f"{what}: {name} is relative; Name.absolute or an origin completes it")
+    return wire
 
 
 def check_ascii(text: bytes) -> None:

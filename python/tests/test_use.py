@@ -78,6 +78,13 @@ class RelativeNames(unittest.TestCase):
             lambda: Question(relative, 1),
             lambda: Message.query(relative, 1),
             lambda: RRset.of(relative, 60, [address]),
+            lambda: Name("www", relative),
+            lambda: Record.from_text("a 60 A 192.0.2.1", relative),
+            lambda: MX.from_text("10 a", relative),
+            lambda: dnw.ds_digest(relative, b"\1\0\3\1", 2),
+            lambda: dnw.nsec3_hash("www.example", 0, b"", 0),
+            lambda: dnw.nsec_covers(relative, "a.", "b."),
+            lambda: dnw.zone_digest(relative, [], 1),
         ]:
             with self.assertRaisesRegex(ValueError, "is relative; Name.absolute or an origin completes it$"):
                 make()
