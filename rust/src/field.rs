@@ -318,8 +318,7 @@ pub(crate) mod put {
     }
 
     pub(crate) fn name(octets: &mut impl Sink, value: &NameRef<'_>) -> Put {
-        value.put(octets);
-        Ok(())
+        value.put(octets)
     }
 
     pub(crate) fn u8(octets: &mut impl Sink, value: &u8) -> Put {

@@ -219,9 +219,9 @@ lists! {
     /// ```
     /// use dns_names_wire::owned::WholeNames;
     ///
-    /// let mut names: WholeNames = ["a.".parse()?].into_iter().collect();
-    /// names.extend(["b.".parse()?]);
+    /// let names = WholeNames::new(&["a.".parse()?, "b.".parse()?])?;
     /// assert_eq!(names.as_wire(), b"\x01a\0\x01b\0");
+    /// assert!(WholeNames::new(&["a".parse()?]).is_err());
     /// # Ok::<(), dns_names_wire::Error>(())
     /// ```
     WholeNames: NameRef<'a>;
@@ -269,17 +269,16 @@ impl Prefixes {
     }
 }
 
-impl FromIterator<Name> for WholeNames {
-    fn from_iter<I: IntoIterator<Item = Name>>(names: I) -> Self {
-        let mut all = WholeNames(Vec::new());
-        all.extend(names);
-        all
-    }
-}
-
-impl Extend<Name> for WholeNames {
-    fn extend<I: IntoIterator<Item = Name>>(&mut self, names: I) {
-        names.into_iter().for_each(|name| self.0.extend_from_slice(name.as_wire()));
+impl WholeNames {
+    /// Returns these names.
+    ///
+    /// # Errors
+    ///
+    /// `RelativeName` if one is not fully qualified.
+    pub fn new<'n, N: Into<NameRef<'n>>>(names: impl IntoIterator<Item = N>) -> Result<Self, Error> {
+        let mut octets = Vec::new();
+        names.into_iter().try_for_each(|name| name.into().put(&mut octets))?;
+        Ok(WholeNames(octets))
     }
 }
 
