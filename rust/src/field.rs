@@ -162,14 +162,11 @@ impl<'a> Fields<'a> {
         Ok(&self.message[field.offset..field.offset + field.len])
     }
 
-    /// Reads a field of `N` octets, without a call of the C library.
+    /// Reads a field of `N` octets.
     #[inline]
     fn array<const N: usize>(&mut self) -> Result<[u8; N], Error> {
-        let octets = self.message.get(self.next.offset..).and_then(|left| left.get(..N));
-        let array = array(octets.unwrap_or_default(), self.next.offset)?;
-        self.next.offset += N;
-        self.next.number += 1;
-        Ok(array)
+        let start = self.next.offset;
+        array(self.octets()?, start)
     }
 
     #[inline]
@@ -285,10 +282,7 @@ impl<'a> Fields<'a> {
     /// Fails with `WrongDataLength` if octets are left.
     #[inline]
     pub(crate) fn end(&mut self) -> Result<(), Error> {
-        match self.next.offset == self.message.len() {
-            true => Ok(()),
-            false => Err(Error::from(ErrorKind::WrongDataLength).at_offset(self.next.offset)),
-        }
+        ffi::next_field(self.message, self.start, self.form, &mut self.next).map(|_| ())
     }
 }
 

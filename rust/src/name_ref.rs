@@ -32,6 +32,8 @@ pub struct NameRef<'a> {
     /// the number of its own octets
     len: u16,
     is_fqdn: bool,
+    /// whether it is known that its own octets are its wire form
+    is_whole: bool,
 }
 
 impl<'a> NameRef<'a> {
@@ -50,14 +52,20 @@ impl<'a> NameRef<'a> {
     /// ```
     pub fn read(message: &'a [u8], start: usize) -> Result<Self, Error> {
         let read = ffi::read(message, start, &mut [0; FORM_SIZE])?;
-        Ok(NameRef::checked(message, start, read.end))
+        Ok(NameRef::with_len(message, start, read.end, read.len))
     }
 
     /// Returns the name at an offset of a message, where it was read before, with the offset after its own octets.
     #[inline]
     pub(crate) fn checked(message: &'a [u8], start: usize, end: usize) -> Self {
         // A name has at most 256 octets of its own.
-        NameRef { message, start, len: (end - start) as u16, is_fqdn: true }
+        NameRef { message, start, len: (end - start) as u16, is_fqdn: true, is_whole: false }
+    }
+
+    /// Returns the same name, if its wire form has so many octets. It is what the name has itself if these are as many.
+    #[inline]
+    pub(crate) fn with_len(message: &'a [u8], start: usize, end: usize, len: usize) -> Self {
+        NameRef { is_whole: end - start == len, ..NameRef::checked(message, start, end) }
     }
 
     /// Calls a function with the wire form, or fails with `RelativeName`.
@@ -72,15 +80,12 @@ impl<'a> NameRef<'a> {
     /// Calls a function with the wire form of the labels.
     #[inline]
     fn with_labels<T>(&self, use_form: impl FnOnce(&[u8]) -> T) -> T {
-        match pass_name(self.message, self.start) {
-            // A name without a pointer is its wire form.
-            Some((end, false)) => use_form(&self.message[self.start..end]),
-            _ => {
-                let mut form = [0; FORM_SIZE];
-                let read = ffi::read(self.message, self.start, &mut form).expect("a name that was read before");
-                use_form(&form[..read.len])
-            }
+        if self.is_whole {
+            return use_form(&self.message[self.start..self.end()]);
         }
+        let mut form = [0; FORM_SIZE];
+        let read = ffi::read(self.message, self.start, &mut form).expect("a name that was read before");
+        use_form(&form[..read.len])
     }
 
     /// Appends the wire form, or fails with `RelativeName`.
@@ -210,7 +215,7 @@ impl From<NameRef<'_>> for Name {
 impl<'a> From<&'a Name> for NameRef<'a> {
     fn from(name: &'a Name) -> Self {
         let form = name.as_wire();
-        NameRef { is_fqdn: name.is_fqdn(), ..NameRef::checked(form, 0, form.len()) }
+        NameRef { is_fqdn: name.is_fqdn(), ..NameRef::with_len(form, 0, form.len(), form.len()) }
     }
 }
 

@@ -195,7 +195,7 @@ impl RecordBuf {
     /// # Ok::<(), dns_names_wire::Error>(())
     /// ```
     pub fn as_record(&self) -> Record<'_> {
-        Record::checked(&self.octets, 0).expect("a record is whole")
+        Record::of_whole(&self.octets, self.fixed)
     }
 
     /// Returns the octets of the record, without compression.
@@ -216,7 +216,7 @@ impl RecordBuf {
     /// # Ok::<(), dns_names_wire::Error>(())
     /// ```
     pub fn owner(&self) -> NameRef<'_> {
-        NameRef::checked(&self.octets, 0, self.fixed)
+        NameRef::with_len(&self.octets, 0, self.fixed, self.fixed)
     }
 
     /// Returns the type.
