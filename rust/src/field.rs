@@ -11,6 +11,15 @@ use core::fmt;
 use core::iter::FusedIterator;
 
 /// A field of the data of a record. All but `Types` borrow from the message.
+///
+/// ```
+/// use dns_names_wire::{Field, RecordBuf};
+///
+/// let record: RecordBuf = "a. 60 MX 10 b.".parse()?;
+/// let fields: Vec<Field<'_>> = record.as_record().fields().collect::<Result<_, _>>()?;
+/// assert!(matches!(fields[..], [Field::Number(10), Field::Name(host)] if host.to_string() == "b."));
+/// # Ok::<(), dns_names_wire::Error>(())
+/// ```
 #[derive(Clone, PartialEq, Eq)]
 #[non_exhaustive]
 pub enum Field<'a> {
@@ -606,6 +615,13 @@ impl fmt::Debug for Pairs<'_> {
 }
 
 /// An address prefix of a list (RFC 3123, section 4).
+///
+/// ```
+/// use dns_names_wire::Prefix;
+///
+/// let prefix = Prefix { family: 1, length: 28, is_negated: true, octets: &[192, 168, 38] };
+/// assert_eq!(format!("{prefix:?}"), "!1:0xC0A826/28");
+/// ```
 #[derive(Clone, Copy, PartialEq, Eq)]
 pub struct Prefix<'a> {
     /// The family of the address: 1 for IPv4, 2 for IPv6.

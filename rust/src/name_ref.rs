@@ -264,6 +264,12 @@ impl Hash for NameRef<'_> {
 }
 
 /// An iterator over consecutive names in a message. See [`names`].
+///
+/// ```
+/// let mut names = dns_names_wire::names(b"\x01b\0\x01a\xC0\0", 0);
+/// assert_eq!(names.by_ref().count(), 2);
+/// assert!(names.next().is_none());
+/// ```
 #[derive(Clone, Debug)]
 pub struct Names<'a> {
     message: &'a [u8],

@@ -431,6 +431,12 @@ impl fmt::Debug for Record<'_> {
 }
 
 /// An iterator over consecutive records in a message. See [`records`].
+///
+/// ```
+/// let mut records = dns_names_wire::records(b"\0\0\x01\0\x01\0\0\0\0\0\0\x40", 0);
+/// assert!(records.next().unwrap().is_ok() && records.next().unwrap().is_err());
+/// assert!(records.next().is_none());
+/// ```
 #[derive(Clone, Debug)]
 pub struct Records<'a> {
     message: &'a [u8],
