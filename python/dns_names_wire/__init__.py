@@ -23,7 +23,7 @@ data        Data, with a class for each type, as A, MX, SOA or TXT, and Unknown 
             FieldValue, TypeSet; data_from_text, data_from_wire
 zone files  read_zone, zone_lines, ZoneError; check_zone, ZoneFinding
 names       Name, NameAt; read_name, names, sort_names; reverse_name, parse_reverse_name
-DNSSEC      Record.signed_octets; key_tag, ds_digest, zone_digest, nsec_covers, nsec3_covers,
+DNSSEC      Record.signed_octets; key_tag, ds, ds_digest, zone_digest, nsec_covers, nsec3_covers,
             nsec3_hash, nsec3_label
 serials     serial_add, serial_compare
 errors      DnsError, with a subclass for each reason, and TextRule
@@ -42,7 +42,7 @@ from ._codes import (
 )  # fmt: skip
 from ._data import Data as Data, Unknown as Unknown, data_from_text as data_from_text, data_from_wire as data_from_wire
 from ._dnssec import (
-    ds_digest as ds_digest, key_tag as key_tag, nsec3_covers as nsec3_covers, nsec3_hash as nsec3_hash,
+    ds as ds, ds_digest as ds_digest, key_tag as key_tag, nsec3_covers as nsec3_covers, nsec3_hash as nsec3_hash,
     nsec3_label as nsec3_label, nsec_covers as nsec_covers, zone_digest as zone_digest,
 )  # fmt: skip
 from ._errors import (
@@ -97,3 +97,6 @@ from ._zones import (
     ZoneError as ZoneError, ZoneFinding as ZoneFinding, check_zone as check_zone, read_zone as read_zone, zone_lines as zone_lines,
 )
 from ._version import VERSION as __version__
+
+# All names above. Type checkers know them by `as`.
+globals()["__all__"] = [_name for _name in globals() if not _name.startswith("_")]

@@ -23,8 +23,12 @@ def octets(what: str, value: object) -> bytes:
     """Returns the value as `bytes`. Other types are copied."""
     if type(value) is bytes:
         return value
-    if isinstance(value, (bytes, bytearray, memoryview)):
-        return memoryview(value).tobytes()
+    # The methods of a subclass are not called.
+    for kind in (bytes, bytearray):
+        if isinstance(value, kind):
+            return bytes(kind.__getitem__(value, slice(None)))
+    if isinstance(value, memoryview):
+        return memoryview.tobytes(value)
     raise wrong_type(what, "bytes are", value)
 
 

@@ -1,7 +1,6 @@
 """The data of records: what their classes have in common."""
 
 from ctypes import byref, c_char, c_size_t
-from dataclasses import dataclass
 from functools import partial
 from ipaddress import IPv4Address, IPv6Address
 from typing import TYPE_CHECKING, Annotated, Any, Callable, ClassVar, Dict, Iterable, List, Optional, Tuple, Type, TypeVar, Union
@@ -11,9 +10,10 @@ from ._checks import Bytes
 from ._codes import RecordType, code_of
 from ._errors import DataTooLong, check, check_fault, check_utf8
 from ._library import FORM_SIZE, NO_ROOM, PrintedRecord, library, taken
-from ._names import Name, whole_name, wire_of
+from ._names import Name, check_ascii, whole_name, whole_wire, wire_of
 from ._table import ALONE_SIZE, FieldValue, Prefix, table_of
 from ._types import TypeSet
+from ._values import Value, dataclass
 
 _Own = TypeVar("_Own", bound="Data")
 
@@ -22,18 +22,39 @@ _MOST = FORM_SIZE + 10 + 65535
 _USUAL_SIZE = 512
 
 
-def parsed(parse: Callable[..., int], find: Callable[..., int], text: Union[str, bytes], origin: Optional[Name]) -> bytes:
-    """Returns the octets that a function of the library stores for a text and an origin. The other finds where the text is wrong."""
-    encoded, wire, size, length = text if isinstance(text, bytes) else _checks.text("text", text), b"", _USUAL_SIZE, c_size_t()
-    if origin is not None:
-        wire, _ = wire_of("origin", origin)
-    if not isinstance(text, bytes):
-        check_utf8(encoded)
+def parsed(
+    parse: Callable[..., int],
+    find: Callable[..., int],
+    text: Union[str, bytes],
+    origin: Optional[Name],
+    record_of: Callable[[bytes], bytes] = bytes,
+) -> bytes:
+    """Returns the octets that a function of the library stores for a text and an origin. The other finds where the text is wrong.
+    `record_of` returns the record that these octets are, or are the data of. Raises `IllegalCharacter` if the text is a `str`, and a
+    name in it has a character that is not ASCII."""
+    if isinstance(text, bytes):
+        return _parsed(parse, find, _checks.octets("text", text), origin)
+    encoded = _checks.text("text", text)
+    check_utf8(encoded)
+    octets = _parsed(parse, find, encoded, origin)
+    if not encoded.isascii():
+        # Other letters make other names, and other strings, which may have any octets.
+        other = _parsed(parse, find, encoded.translate(_OTHER_LETTERS), origin)
+        if table_of(record_of(octets)).names != table_of(record_of(other)).names:
+            check_ascii(encoded)
+    return octets
+
+
+_OTHER_LETTERS = bytes(octet if octet < 128 else ord("x") for octet in range(256))
+
+
+def _parsed(parse: Callable[..., int], find: Callable[..., int], text: bytes, origin: Optional[Name]) -> bytes:
+    wire, size, length = b"" if origin is None else whole_wire("origin", origin), _USUAL_SIZE, c_size_t()
     while True:
         room = (c_char * size)()
-        number = parse(encoded, len(encoded), wire, len(wire), room, size, byref(length))
+        number = parse(text, len(text), wire, len(wire), room, size, byref(length))
         if number != NO_ROOM or size == _MOST:
-            check_fault(number, encoded, lambda fault: find(encoded, len(encoded), wire, len(wire), byref(fault)))
+            check_fault(number, text, lambda fault: find(text, len(text), wire, len(wire), byref(fault)))
             return taken(room, length.value)
         size = _MOST
 
@@ -58,11 +79,18 @@ def data_from_wire(record_type: "TypeLike", octets: Bytes) -> "Data":
     MX(preference=10, exchange=Name('a.'))
     """
     code, whole = code_of(RecordType, "record_type", record_type), _checks.octets("octets", octets)
-    if len(whole) > 65535:
+    return data_of(code, *table_of(_root_record(code, whole)).fields(0, ALONE_SIZE + _ROOT_SIZE), whole)
+
+
+def _root_record(record_type: int, octets: bytes) -> bytes:
+    """Returns the octets of a record of the root, of class IN, with these data. Raises `DataTooLong` if they are too long."""
+    if len(octets) > 65535:
         raise DataTooLong()
-    # a record of the root
-    head = b"\0" + code.to_bytes(2, "big") + b"\0\1\0\0\0\0" + len(whole).to_bytes(2, "big")
-    return data_of(code, *table_of(head + whole).fields(0, ALONE_SIZE + len(head)), whole)
+    return b"\0" + record_type.to_bytes(2, "big") + b"\0\1\0\0\0\0" + len(octets).to_bytes(2, "big") + octets
+
+
+# The octets of that record before its data.
+_ROOT_SIZE = 11
 
 
 def data_of(record_type: int, kinds: Tuple[int, ...], values: List[FieldValue], octets: bytes) -> "Data":
@@ -75,7 +103,7 @@ def data_of(record_type: int, kinds: Tuple[int, ...], values: List[FieldValue], 
         return Unknown(record_type, octets)
     # There is a value for each field of the class, of its type, so __init__ need not be called.
     made = object.__new__(kind)
-    made.__dict__.update(zip(kind.__dataclass_fields__, values))
+    made.__dict__.update(zip(kind._names, values))
     return made
 
 
@@ -83,18 +111,19 @@ def data_from_text(record_type: "TypeLike", text: Union[str, bytes], origin: Opt
     """Parses data of a type in class IN from their text in master files. The origin is appended to names without a last dot.
     A string may have any octets as they are, so the text may be octets too; a `str` is taken in UTF-8.
 
-    Raises `BadData` if the text is not data of the type.
+    Raises `BadData` if the text is not data of the type, and `IllegalCharacter` if a name in a `str` has a character that is not
+    ASCII.
 
     >>> data_from_text("MX", "10 mail", Name("example."))
     MX(preference=10, exchange=Name('mail.example.'))
     """
     code = code_of(RecordType, "record_type", record_type)
     parse, find = (partial(function, 1, code) for function in (library.dnw_data_parse, library.dnw_data_text_fault))
-    octets = parsed(parse, find, text, origin)
+    octets = parsed(parse, find, text, origin, lambda octets: _root_record(code, octets))
     return data_from_wire(code, octets)
 
 
-# The fields of data, each with its letter: numbers of as many octets, a time, octets after a length octet, octets up to
+# The fields of data, each with its letter: numbers of as many octets, a time, a text or octets after a length octet, and up to
 # the end, texts, service parameters, octets after a length of two octets, octets whose first ones say what follows
 # them, address prefixes, and names in their wire form.
 U8 = Annotated[int, "1"]
@@ -104,6 +133,8 @@ U48 = Annotated[int, "6"]
 U64 = Annotated[int, "8"]
 Time = Annotated[int, "T"]
 String = Annotated[bytes, "s"]
+RestString = Annotated[bytes, "x"]
+Counted = Annotated[bytes, "c"]
 Rest = Annotated[bytes, "o"]
 Strings = Annotated[Tuple[bytes, ...], "S"]
 Params = Annotated[Tuple[Tuple[int, bytes], ...], "P"]
@@ -115,12 +146,14 @@ WholeNames = Annotated[Tuple[Name, ...], "N"]
 # The letters of fields that are known by their Python type: a name, addresses, a record type and a type bitmap.
 _LETTERS: Dict[Any, str] = {Name: "n", IPv4Address: "i", IPv6Address: "I", RecordType: "t", TypeSet: "B"}
 
-# What a constructor takes for a name, an address, a type and a set of types: the value, or its text, or numbers.
+# What a constructor takes for a name, an address, a type, a set of types and texts: the value, or its text, or numbers.
 NameLike = Union[Name, str]
 IPv4Like = Union[IPv4Address, str]
 IPv6Like = Union[IPv6Address, str]
 TypeLike = Union[int, str]
 TypesLike = Iterable[TypeLike]
+StringLike = Union[str, Bytes]
+StringsLike = Union[StringLike, Iterable[StringLike]]
 
 
 def _letter(annotation: Any) -> str:
@@ -128,35 +161,38 @@ def _letter(annotation: Any) -> str:
     return letter
 
 
-class Data:
-    """The data of a record. There is a subclass for each type, which is a dataclass.
+class Data(Value):
+    """The data of a record. There is a subclass for each type, with the fields and the methods of a frozen dataclass.
 
-    A name may be given by its text, fully qualified, and an address by its text. Each class raises `TypeError` or
-    `ValueError` if a field is of a wrong type or out of bounds, or a name is relative, and `DataTooLong` if octets are
-    more than a field may have.
+    A name may be given by its text, fully qualified, and an address or a character string by its text. Each class raises
+    `TypeError` or `ValueError` if a field is of a wrong type or out of bounds, or a name is relative, and `DataTooLong` if
+    octets are more than a field may have. `str` returns the text in master files.
 
-    >>> from dns_names_wire import MX
+    >>> from dns_names_wire import MX, TXT
     >>> MX(10, "mail.example."), MX(10, "mail.example.").to_wire().hex()
     (MX(preference=10, exchange=Name('mail.example.')), '000a046d61696c076578616d706c6500')
+    >>> print(MX(10, "mail.example."), TXT("v=spf1 -all"))
+    10 mail.example. "v=spf1 -all"
     """
 
     # The code of the type, if the class has one, and the letters of the fields, from their annotations.
     _code: ClassVar[Optional[int]] = None
     _kinds: ClassVar[str] = ""
-    __dataclass_fields__: ClassVar[Dict[str, Any]]
 
     def __init_subclass__(cls, code: Optional[int] = None) -> None:
-        cls._code = code
-        annotations = cls.__annotations__
-        if annotations:
-            cls._kinds = "".join(_letter(annotation) for annotation in annotations.values())
+        super().__init_subclass__()
         if code is not None:
-            CLASSES[code] = cls
+            cls._code, CLASSES[code] = code, cls
+        own = cls.__annotations__
+        if cls._names and cls._names[0] in own:
+            cls._kinds = "".join([_letter(own[name]) for name in cls._names])
 
-    def __post_init__(self) -> None:
-        own = self.__dict__
-        for name, kind in zip(self.__dataclass_fields__, self._kinds):
-            own[name] = _TAKEN[kind](name, own[name])
+    if not TYPE_CHECKING:
+
+        def __init__(self, *values, **named):
+            own = self.__dict__
+            for name, kind, value in zip(self._names, self._kinds, self._given(values, named)):
+                own[name] = _TAKEN[kind](name, value)
 
     @property
     def record_type(self) -> RecordType:
@@ -166,7 +202,7 @@ class Data:
     def to_wire(self) -> bytes:
         """Returns the octets, without compression."""
         own = self.__dict__
-        return b"".join([_PUT[kind](own[name]) for name, kind in zip(self.__dataclass_fields__, self._kinds)])
+        return b"".join([_PUT[kind](own[name]) for name, kind in zip(self._names, self._kinds)])
 
     def to_text(self) -> str:
         """Returns the text in master files: in the form of the type, or in that of any data, `\\# 4 0A000001` (RFC
@@ -176,12 +212,11 @@ class Data:
         >>> MX(10, "a.").to_text()
         '10 a.'
         """
-        octets = self.to_wire()
-        if len(octets) > 65535:
-            raise DataTooLong()
-        # a record of the root, of class IN
-        head = b"\0" + self.record_type.to_bytes(2, "big") + b"\0\1\0\0\0\0" + len(octets).to_bytes(2, "big")
-        return printed(head + octets, 0).split(" ", 4)[4]
+        octets = _checks.octets("data", self.to_wire())
+        return printed(_root_record(self.record_type, octets), 0).split(" ", 4)[4]
+
+    def __str__(self) -> str:
+        return self.to_text()
 
     @classmethod
     def from_wire(cls: Type[_Own], octets: Bytes) -> _Own:
@@ -221,13 +256,10 @@ class Unknown(Data):
     """Data of a type that has no class of its own, or that are not those of its class."""
 
     of_type: RecordType
-    octets: bytes
+    octets: Rest
 
     if TYPE_CHECKING:
-        def __init__(self, of_type: TypeLike, octets: bytes) -> None: ...
-
-    def __post_init__(self) -> None:
-        self.__dict__.update(of_type=code_of(RecordType, "of_type", self.of_type), octets=_take_any("octets", self.octets))
+        def __init__(self, of_type: TypeLike, octets: Bytes) -> None: ...
 
     @property
     def record_type(self) -> RecordType:
@@ -255,7 +287,26 @@ def _take_octets(most: Optional[int]) -> Callable[[str, Any], bytes]:
 
 
 _take_octet, _take_code, _take_any = _take_number(1), _take_number(2), _take_octets(None)
-_take_string = _take_octets(255)
+_take_counted = _take_octets(255)
+
+
+def _take_text(name: str, value: Any) -> bytes:
+    """Takes octets, or a text by its UTF-8."""
+    if not isinstance(value, str):
+        return _take_any(name, value)
+    octets = _checks.text(name, value)
+    check_utf8(octets)
+    return octets
+
+
+def _take_string(name: str, value: Any) -> bytes:
+    return _take_counted(name, _take_text(name, value))
+
+
+def _take_strings(name: str, value: Any) -> Tuple[bytes, ...]:
+    """Takes one string, or an iterable of strings."""
+    is_one = isinstance(value, (str, bytes, bytearray, memoryview))
+    return tuple([_take_string(name, one) for one in ([value] if is_one else value)])
 
 
 def _take_prefix(name: str, prefix: Prefix) -> Prefix:
@@ -282,8 +333,10 @@ _TAKEN: Dict[str, Callable[[str, Any], Any]] = {
     "t": lambda name, value: code_of(RecordType, name, value),
     "T": _take_number(4),
     "s": _take_string,
+    "x": _take_text,
+    "c": _take_counted,
     "o": _take_any,
-    "S": lambda name, value: tuple(_take_string(name, text) for text in value),
+    "S": _take_strings,
     "B": lambda name, value: value if isinstance(value, TypeSet) else TypeSet(value),
     "P": take_pairs,
     "l": _take_octets(65535),
@@ -320,6 +373,8 @@ _PUT: Dict[str, Callable[[Any], bytes]] = {
     "t": lambda value: int.to_bytes(value, 2, "big"),
     "T": lambda value: int.to_bytes(value, 4, "big"),
     "s": _put_string,
+    "x": bytes,
+    "c": _put_string,
     "o": bytes,
     "S": lambda value: b"".join([_put_string(text) for text in value]),
     "B": TypeSet.to_bitmap,
@@ -332,8 +387,8 @@ _PUT: Dict[str, Callable[[Any], bytes]] = {
 
 # The kinds that dns_names_wire.h has for each letter.
 _KINDS = {
-    **dict.fromkeys("12468", {2}), "n": {1}, "i": {3}, "I": {4}, "t": {5}, "T": {6}, "s": {7, 8}, "o": {7, 8}, "S": {9},
-    "B": {10}, "P": {11}, "l": {8}, "g": {12, 13, 14, 15, 18}, "p": {16}, "N": {17},
+    **dict.fromkeys("12468", {2}), "n": {1}, "i": {3}, "I": {4}, "t": {5}, "T": {6}, "s": {7}, "x": {7}, "c": {8}, "o": {8},
+    "S": {9}, "B": {10}, "P": {11}, "l": {8}, "g": {12, 13, 14, 15, 18}, "p": {16}, "N": {17},
 }  # fmt: skip
 
 

@@ -7,7 +7,7 @@ from typing import Any, Callable, Iterable, Iterator, List, NamedTuple, Optional
 
 from . import _checks
 from ._checks import Bytes
-from ._errors import BytesLeft, check, check_text, check_utf8
+from ._errors import BytesLeft, IllegalCharacter, check, check_text, check_utf8
 from ._library import (
     FORM_SIZE,
     SORT_KEY_SIZE,
@@ -91,22 +91,23 @@ class Name:
 
     @classmethod
     def from_text(cls, text: str, origin: Optional["Name"] = None) -> "Name":
-        """Parses a name (RFC 1035, section 5.1): labels with dots between them. Any octet of the text, in UTF-8, stands
-        for itself, but for a dot and a backslash: `\\DDD` in decimal is that octet, and a backslash before any other
-        octet is that octet.
+        """Parses a name (RFC 1035, section 5.1): labels with dots between them. Any ASCII character stands for itself, but
+        for a dot and a backslash: `\\DDD` in decimal is that octet, and a backslash before any other character is that
+        character. A label of other letters has to be given as an A-label (RFC 5890, section 2.3.2.1), as `xn--bcher-kva`.
 
         A name with a dot at its end is fully qualified, and `.` is the root. Any other name is completed by the origin,
         if there is one, and is fully qualified then; else it is relative. `@` is the origin, or the relative name
-        without labels. Raises `EmptyLabel` (also for an empty text), `LabelTooLong`, `NameTooLong`, `BadEscape`,
-        `TextCut` or `NotUtf8` if the text is not a name, with the offset and the rule.
+        without labels. Raises `EmptyLabel` (also for an empty text), `LabelTooLong`, `NameTooLong`, `BadEscape` or
+        `TextCut` if the text is not a name, with the offset and the rule, `IllegalCharacter` if it is not ASCII, and
+        `ValueError` if the origin is relative.
 
         >>> Name.from_text("www", Name("example."))
         Name('www.example.')
         >>> Name.from_text("a\\\\032b\\\\.c.").labels
         (b'a b.c',)
         """
-        encoded, own = _checks.text("text", text), b"" if origin is None else wire_of("origin", origin)[0]
-        check_utf8(encoded)
+        encoded, own = _checks.text("text", text), b"" if origin is None else whole_wire("origin", origin)
+        check_ascii(encoded)
         form, parsed = Form(), ParsedName()
         failure = library.dnw_name_parse(encoded, len(encoded), own, len(own), form, FORM_SIZE, byref(parsed))
         check_text(failure, encoded, own)
@@ -440,12 +441,26 @@ def wire_of(what: str, name: object) -> Tuple[bytes, int]:
 
 
 def whole_name(what: str, name: object) -> Name:
-    """Returns an argument that has to be a fully qualified name, or its text."""
+    """Returns an argument that has to be a fully qualified name, or its text. The result is of no subclass."""
     own = Name.from_text(name) if isinstance(name, str) else name
-    wire_of(what, own)
-    if not isinstance(own, Name) or not _get_is_fqdn(own):
-        raise ValueError(f"{what}: {own} is relative; Name.absolute or an origin completes it")
-    return own
+    wire = whole_wire(what, own)
+    return own if type(own) is Name else Name._of(wire, True)
+
+
+def whole_wire(what: str, name: object) -> bytes:
+    """Returns the wire form of an argument that has to be a fully qualified name."""
+    wire, _ = wire_of(what, name)
+    if not _get_is_fqdn(name):  # type: ignore[arg-type]
+        raise ValueError(f"{what}: {name} is relative; Name.absolute or an origin completes it")
+    return wire
+
+
+def check_ascii(text: bytes) -> None:
+    """Raises `IllegalCharacter` at the first character of a text in UTF-8 that is not ASCII, or `NotUtf8`."""
+    if not text.isascii():
+        check_utf8(text)
+        offset = next(offset for offset, octet in enumerate(text) if octet > 127)
+        raise IllegalCharacter("a name has ASCII characters; a label of others has to be given as an A-label", offset)
 
 
 def sort_names(names: Iterable[Name]) -> List[Name]:

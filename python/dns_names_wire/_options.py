@@ -1,13 +1,13 @@
 """EDNS options."""
 
 from ctypes import byref, c_char, c_size_t, c_uint8
-from dataclasses import dataclass
 from typing import ClassVar, Dict, NamedTuple, Optional, Tuple, Type, Union
 
 from . import _checks
 from ._errors import check
 from ._library import OptionParts, library, taken
 from ._names import Name, whole_name, wire_of
+from ._values import Value, dataclass
 
 # The octets of the cookie of a client, which are more than any other option has before its last part.
 _CLIENT_SIZE = 8
@@ -55,8 +55,9 @@ class EdnsOption(NamedTuple):
         return taken(room, length.value).decode()
 
 
-class OptionData:
-    """What an EDNS option says. There is a class for each code of which something is known here, and `UnknownOption`.
+class OptionData(Value):
+    """What an EDNS option says. There is a class for each code of which something is known here, and `UnknownOption`. `str` returns
+    it as that of the option.
 
     >>> ClientSubnet(1, 24, 0, bytes([192, 0, 2])).option()
     EdnsOption(code=8, octets=b'\\x00\\x01\\x18\\x00\\xc0\\x00\\x02')
@@ -69,9 +70,13 @@ class OptionData:
     def option(self) -> EdnsOption:
         """Returns the option that says it. Raises as `EdnsOption.data` does if it breaks a rule of the option."""
         parts, own = self._parts()
+        own = _checks.octets("octets", own)
         room, length = (c_char * (_CLIENT_SIZE + len(own)))(), c_size_t()
         check(library.dnw_option_write(self.code, byref(parts), own, len(own), room, len(room), byref(length)))
         return EdnsOption(self.code, taken(room, length.value))
+
+    def __str__(self) -> str:
+        return str(self.option())
 
     @classmethod
     def _of(cls, parts: OptionParts, own: bytes) -> "OptionData":

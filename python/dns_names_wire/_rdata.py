@@ -1,7 +1,6 @@
 # made by tools/types from crates/dnw_data/specs/Table.antt; change it there
-"""The data of records: a frozen dataclass for each type."""
+"""The data of records: a class for each type."""
 
-from dataclasses import dataclass
 from ipaddress import IPv4Address, IPv6Address
 from typing import TYPE_CHECKING, Iterable
 
@@ -12,6 +11,7 @@ from ._data import (
     U32,
     U48,
     U64,
+    Counted,
     Data,
     IPv4Like,
     IPv6Like,
@@ -20,27 +20,23 @@ from ._data import (
     Params,
     Prefixes,
     Rest,
+    RestString,
     Shaped,
     String,
+    StringLike,
     Strings,
+    StringsLike,
     Time,
     TypeLike,
     TypesLike,
     WholeNames,
 )
+from ._dnssec import Key
 from ._names import Name
 from ._types import TypeSet
+from ._values import dataclass
 
-# What a class takes is written for type checkers alone: the dataclass makes __init__, and `Data` takes each field as its
-# kind says.
-
-
-@dataclass(frozen=True)
-class _Target(Data):
-    target: Name
-
-    if TYPE_CHECKING:
-        def __init__(self, target: NameLike) -> None: ...
+# What a class takes is written for type checkers alone: `Data` takes each field as its kind says.
 
 
 @dataclass(frozen=True)
@@ -53,20 +49,44 @@ class A(Data, code=1):
         def __init__(self, address: IPv4Like) -> None: ...
 
 
-class NS(_Target, code=2):
+@dataclass(frozen=True)
+class NS(Data, code=2):
     """A name server of a zone (RFC 1035, section 3.3.11)."""
 
+    target: Name
 
-class MD(_Target, code=3):
+    if TYPE_CHECKING:
+        def __init__(self, target: NameLike) -> None: ...
+
+
+@dataclass(frozen=True)
+class MD(Data, code=3):
     """A host that takes mail, which is obsolete (RFC 1035, section 3.3.4)."""
 
+    target: Name
 
-class MF(_Target, code=4):
+    if TYPE_CHECKING:
+        def __init__(self, target: NameLike) -> None: ...
+
+
+@dataclass(frozen=True)
+class MF(Data, code=4):
     """A host that forwards mail, which is obsolete (RFC 1035, section 3.3.5)."""
 
+    target: Name
 
-class CNAME(_Target, code=5):
+    if TYPE_CHECKING:
+        def __init__(self, target: NameLike) -> None: ...
+
+
+@dataclass(frozen=True)
+class CNAME(Data, code=5):
     """The canonical name of an alias (RFC 1035, section 3.3.1)."""
+
+    target: Name
+
+    if TYPE_CHECKING:
+        def __init__(self, target: NameLike) -> None: ...
 
 
 @dataclass(frozen=True)
@@ -96,16 +116,34 @@ class SOA(Data, code=6):
         ) -> None: ...
 
 
-class MB(_Target, code=7):
+@dataclass(frozen=True)
+class MB(Data, code=7):
     """A host of a mailbox (RFC 1035, section 3.3.3)."""
 
+    target: Name
 
-class MG(_Target, code=8):
+    if TYPE_CHECKING:
+        def __init__(self, target: NameLike) -> None: ...
+
+
+@dataclass(frozen=True)
+class MG(Data, code=8):
     """A member of a group of mailboxes (RFC 1035, section 3.3.6)."""
 
+    target: Name
 
-class MR(_Target, code=9):
+    if TYPE_CHECKING:
+        def __init__(self, target: NameLike) -> None: ...
+
+
+@dataclass(frozen=True)
+class MR(Data, code=9):
     """The new name of a mailbox (RFC 1035, section 3.3.8)."""
+
+    target: Name
+
+    if TYPE_CHECKING:
+        def __init__(self, target: NameLike) -> None: ...
 
 
 @dataclass(frozen=True)
@@ -125,8 +163,14 @@ class WKS(Data, code=11):
         def __init__(self, address: IPv4Like, protocol: U8, bitmap: Rest) -> None: ...
 
 
-class PTR(_Target, code=12):
+@dataclass(frozen=True)
+class PTR(Data, code=12):
     """A pointer to another name (RFC 1035, section 3.3.12)."""
+
+    target: Name
+
+    if TYPE_CHECKING:
+        def __init__(self, target: NameLike) -> None: ...
 
 
 @dataclass(frozen=True)
@@ -139,6 +183,9 @@ class HINFO(Data, code=13):
 
     cpu: String
     os: String
+
+    if TYPE_CHECKING:
+        def __init__(self, cpu: StringLike, os: StringLike) -> None: ...
 
 
 @dataclass(frozen=True)
@@ -171,47 +218,14 @@ class MX(Data, code=15):
         def __init__(self, preference: U16, exchange: NameLike) -> None: ...
 
 
-class RT(MX, code=21):
-    """A host that routes to another one (RFC 1183, section 3.3)."""
-
-
-class KX(MX, code=36):
-    """A host that exchanges keys (RFC 2230, section 3)."""
-
-
 @dataclass(frozen=True)
 class TXT(Data, code=16):
     """Texts (RFC 1035, section 3.3.14)."""
 
     strings: Strings
 
-
-class ISDN(TXT, code=20):
-    """An address of ISDN, and a subaddress if there is one (RFC 1183, section 3.2)."""
-
-
-class NINFO(TXT, code=56):
-    """The state of a zone (the template NINFO of IANA's registry)."""
-
-
-class SPF(TXT, code=99):
-    """SPF texts (RFC 4408, section 3.1.1), now in TXT records (RFC 7208, section 3.1)."""
-
-
-class AVC(TXT, code=258):
-    """What is known of an application (the template AVC of IANA's registry)."""
-
-
-class RESINFO(TXT, code=261):
-    """What a resolver says of itself (RFC 9606, section 4)."""
-
-
-class WALLET(TXT, code=262):
-    """A public address of a wallet (the template WALLET of IANA's registry)."""
-
-
-class CLA(TXT, code=263):
-    """The convergence layer adapters of a node of the Bundle Protocol (the template CLA of IANA's registry)."""
+    if TYPE_CHECKING:
+        def __init__(self, strings: StringsLike) -> None: ...
 
 
 @dataclass(frozen=True)
@@ -250,6 +264,34 @@ class X25(Data, code=19):
 
     address: String
 
+    if TYPE_CHECKING:
+        def __init__(self, address: StringLike) -> None: ...
+
+
+@dataclass(frozen=True)
+class ISDN(Data, code=20):
+    """An address of ISDN, and a subaddress if there is one (RFC 1183, section 3.2)."""
+
+    strings: Strings
+
+    if TYPE_CHECKING:
+        def __init__(self, strings: StringsLike) -> None: ...
+
+
+@dataclass(frozen=True)
+class RT(Data, code=21):
+    """A host that routes to another one (RFC 1183, section 3.3).
+
+    preference: Lower values are preferred.
+    exchange: The host.
+    """
+
+    preference: U16
+    exchange: Name
+
+    if TYPE_CHECKING:
+        def __init__(self, preference: U16, exchange: NameLike) -> None: ...
+
 
 @dataclass(frozen=True)
 class NSAP(Data, code=22):
@@ -258,8 +300,62 @@ class NSAP(Data, code=22):
     address: Rest
 
 
-class NSAP_PTR(_Target, code=23):
+@dataclass(frozen=True)
+class NSAP_PTR(Data, code=23):
     """The name of an address of OSI (RFC 1706, section 6)."""
+
+    target: Name
+
+    if TYPE_CHECKING:
+        def __init__(self, target: NameLike) -> None: ...
+
+
+@dataclass(frozen=True)
+class SIG(Data, code=24):
+    """A signature of records (RFC 2535, section 4.1) or, if it covers the type 0, of a message (RFC 2931).
+
+    type_covered: The type of the records.
+    algorithm: The algorithm.
+    labels: The number of labels of the owner, without a `*` at the start.
+    original_ttl: The TTL of the records in their zone.
+    expiration: When the signature expires, in seconds since 1970, as a serial number (RFC 1982).
+    inception: When the signature becomes valid, in the same form.
+    key_tag: The tag of the key.
+    signer: The zone of the key.
+    signature: The signature.
+    """
+
+    type_covered: RecordType
+    algorithm: U8
+    labels: U8
+    original_ttl: U32
+    expiration: Time
+    inception: Time
+    key_tag: U16
+    signer: Name
+    signature: Rest
+
+    if TYPE_CHECKING:
+        def __init__(
+            self, type_covered: TypeLike, algorithm: U8, labels: U8, original_ttl: U32, expiration: Time,
+            inception: Time, key_tag: U16, signer: NameLike, signature: Rest
+        ) -> None: ...
+
+
+@dataclass(frozen=True)
+class KEY(Data, code=25):
+    """A key of a host (RFC 2535, section 3.1).
+
+    flags: 256 for a zone key, 257 for a zone key that is also a secure entry point.
+    protocol: Always 3.
+    algorithm: The algorithm.
+    key: The key.
+    """
+
+    flags: U16
+    protocol: U8
+    algorithm: U8
+    key: Rest
 
 
 @dataclass(frozen=True)
@@ -291,6 +387,9 @@ class GPOS(Data, code=27):
     longitude: String
     latitude: String
     altitude: String
+
+    if TYPE_CHECKING:
+        def __init__(self, longitude: StringLike, latitude: StringLike, altitude: StringLike) -> None: ...
 
 
 @dataclass(frozen=True)
@@ -365,8 +464,24 @@ class NAPTR(Data, code=35):
 
     if TYPE_CHECKING:
         def __init__(
-            self, order: U16, preference: U16, flags: String, service: String, regexp: String, replacement: NameLike
+            self, order: U16, preference: U16, flags: StringLike, service: StringLike, regexp: StringLike,
+            replacement: NameLike
         ) -> None: ...
+
+
+@dataclass(frozen=True)
+class KX(Data, code=36):
+    """A host that exchanges keys (RFC 2230, section 3).
+
+    preference: Lower values are preferred.
+    exchange: The host.
+    """
+
+    preference: U16
+    exchange: Name
+
+    if TYPE_CHECKING:
+        def __init__(self, preference: U16, exchange: NameLike) -> None: ...
 
 
 @dataclass(frozen=True)
@@ -385,8 +500,14 @@ class CERT(Data, code=37):
     certificate: Rest
 
 
-class DNAME(_Target, code=39):
+@dataclass(frozen=True)
+class DNAME(Data, code=39):
     """The name that a subtree is an alias of (RFC 6672, section 2.1)."""
+
+    target: Name
+
+    if TYPE_CHECKING:
+        def __init__(self, target: NameLike) -> None: ...
 
 
 @dataclass(frozen=True)
@@ -413,18 +534,6 @@ class DS(Data, code=43):
     algorithm: U8
     digest_type: U8
     digest: Rest
-
-
-class CDS(DS, code=59):
-    """The child's copy of a DS (RFC 7344, section 3.1)."""
-
-
-class TA(DS, code=32768):
-    """The digest of a key that is trusted (the reference of IANA's registry, as DS)."""
-
-
-class DLV(DS, code=32769):
-    """The digest of a key of a zone that is looked up aside (RFC 4431, section 2)."""
 
 
 @dataclass(frozen=True)
@@ -487,10 +596,6 @@ class RRSIG(Data, code=46):
         ) -> None: ...
 
 
-class SIG(RRSIG, code=24):
-    """A signature of records (RFC 2535, section 4.1) or, if it covers the type 0, of a message (RFC 2931)."""
-
-
 @dataclass(frozen=True)
 class NSEC(Data, code=47):
     """The next name in a zone, and the types at this name (RFC 4034, section 4.1).
@@ -507,7 +612,7 @@ class NSEC(Data, code=47):
 
 
 @dataclass(frozen=True)
-class DNSKEY(Data, code=48):
+class DNSKEY(Key, code=48):
     """A key of a zone (RFC 4034, section 2.1).
 
     flags: 256 for a zone key, 257 for a zone key that is also a secure entry point.
@@ -520,18 +625,6 @@ class DNSKEY(Data, code=48):
     protocol: U8
     algorithm: U8
     key: Rest
-
-
-class KEY(DNSKEY, code=25):
-    """A key of a host (RFC 2535, section 3.1)."""
-
-
-class RKEY(DNSKEY, code=57):
-    """A key for the encryption of NAPTR records (the template RKEY of IANA's registry)."""
-
-
-class CDNSKEY(DNSKEY, code=60):
-    """The child's copy of a DNSKEY (RFC 7344, section 3.2)."""
 
 
 @dataclass(frozen=True)
@@ -556,13 +649,13 @@ class NSEC3(Data, code=50):
     algorithm: U8
     flags: U8
     iterations: U16
-    salt: String
-    next: String
+    salt: Counted
+    next: Counted
     types: TypeSet
 
     if TYPE_CHECKING:
         def __init__(
-            self, algorithm: U8, flags: U8, iterations: U16, salt: String, next: String, types: TypesLike
+            self, algorithm: U8, flags: U8, iterations: U16, salt: Counted, next: Counted, types: TypesLike
         ) -> None: ...
 
 
@@ -579,7 +672,7 @@ class NSEC3PARAM(Data, code=51):
     algorithm: U8
     flags: U8
     iterations: U16
-    salt: String
+    salt: Counted
 
 
 @dataclass(frozen=True)
@@ -598,8 +691,20 @@ class TLSA(Data, code=52):
     cert: Rest
 
 
-class SMIMEA(TLSA, code=53):
-    """A certificate for mail (RFC 8162, section 2)."""
+@dataclass(frozen=True)
+class SMIMEA(Data, code=53):
+    """A certificate for mail (RFC 8162, section 2).
+
+    usage: The certificate usage: what has to match.
+    selector: The selector: the whole certificate, or its public key.
+    mtype: The matching type: the selected content itself, or a hash of it.
+    cert: The content or its hash.
+    """
+
+    usage: U8
+    selector: U8
+    mtype: U8
+    cert: Rest
 
 
 @dataclass(frozen=True)
@@ -618,6 +723,32 @@ class HIP(Data, code=55):
 
 
 @dataclass(frozen=True)
+class NINFO(Data, code=56):
+    """The state of a zone (the template NINFO of IANA's registry)."""
+
+    strings: Strings
+
+    if TYPE_CHECKING:
+        def __init__(self, strings: StringsLike) -> None: ...
+
+
+@dataclass(frozen=True)
+class RKEY(Data, code=57):
+    """A key for the encryption of NAPTR records (the template RKEY of IANA's registry).
+
+    flags: 256 for a zone key, 257 for a zone key that is also a secure entry point.
+    protocol: Always 3.
+    algorithm: The algorithm.
+    key: The key.
+    """
+
+    flags: U16
+    protocol: U8
+    algorithm: U8
+    key: Rest
+
+
+@dataclass(frozen=True)
 class TALINK(Data, code=58):
     """The links of a chain of trust anchors (the template TALINK of IANA's registry).
 
@@ -630,6 +761,38 @@ class TALINK(Data, code=58):
 
     if TYPE_CHECKING:
         def __init__(self, previous: NameLike, next: NameLike) -> None: ...
+
+
+@dataclass(frozen=True)
+class CDS(Data, code=59):
+    """The child's copy of a DS (RFC 7344, section 3.1).
+
+    key_tag: The tag of the key.
+    algorithm: The algorithm of the key.
+    digest_type: The digest algorithm.
+    digest: The digest.
+    """
+
+    key_tag: U16
+    algorithm: U8
+    digest_type: U8
+    digest: Rest
+
+
+@dataclass(frozen=True)
+class CDNSKEY(Key, code=60):
+    """The child's copy of a DNSKEY (RFC 7344, section 3.2).
+
+    flags: 256 for a zone key, 257 for a zone key that is also a secure entry point.
+    protocol: Always 3.
+    algorithm: The algorithm.
+    key: The key.
+    """
+
+    flags: U16
+    protocol: U8
+    algorithm: U8
+    key: Rest
 
 
 @dataclass(frozen=True)
@@ -682,8 +845,21 @@ class SVCB(Data, code=64):
         def __init__(self, priority: U16, target: NameLike, params: Params) -> None: ...
 
 
-class HTTPS(SVCB, code=65):
-    """How to reach a service over HTTPS (RFC 9460, section 9)."""
+@dataclass(frozen=True)
+class HTTPS(Data, code=65):
+    """How to reach a service over HTTPS (RFC 9460, section 9).
+
+    priority: 0 for an alias. Of others, lower values are preferred.
+    target: The host, or the root for the owner itself.
+    params: The parameters, each a key and its value, in ascending order of the keys.
+    """
+
+    priority: U16
+    target: Name
+    params: Params
+
+    if TYPE_CHECKING:
+        def __init__(self, priority: U16, target: NameLike, params: Params) -> None: ...
 
 
 @dataclass(frozen=True)
@@ -717,6 +893,16 @@ class BRID(Data, code=68):
     """The identity of an unmanned aircraft (RFC 9886, section 5.2)."""
 
     identity: Rest
+
+
+@dataclass(frozen=True)
+class SPF(Data, code=99):
+    """SPF texts (RFC 4408, section 3.1.1), now in TXT records (RFC 7208, section 3.1)."""
+
+    strings: Strings
+
+    if TYPE_CHECKING:
+        def __init__(self, strings: StringsLike) -> None: ...
 
 
 @dataclass(frozen=True)
@@ -859,7 +1045,10 @@ class URI(Data, code=256):
 
     priority: U16
     weight: U16
-    target: Rest
+    target: RestString
+
+    if TYPE_CHECKING:
+        def __init__(self, priority: U16, weight: U16, target: StringLike) -> None: ...
 
 
 @dataclass(frozen=True)
@@ -873,7 +1062,20 @@ class CAA(Data, code=257):
 
     flags: U8
     tag: String
-    value: Rest
+    value: RestString
+
+    if TYPE_CHECKING:
+        def __init__(self, flags: U8, tag: StringLike, value: StringLike) -> None: ...
+
+
+@dataclass(frozen=True)
+class AVC(Data, code=258):
+    """What is known of an application (the template AVC of IANA's registry)."""
+
+    strings: Strings
+
+    if TYPE_CHECKING:
+        def __init__(self, strings: StringsLike) -> None: ...
 
 
 @dataclass(frozen=True)
@@ -893,6 +1095,11 @@ class DOA(Data, code=259):
     media_type: String
     data: Rest
 
+    if TYPE_CHECKING:
+        def __init__(
+            self, enterprise: U32, object_type: U32, location: U8, media_type: StringLike, data: Rest
+        ) -> None: ...
+
 
 @dataclass(frozen=True)
 class AMTRELAY(Data, code=260):
@@ -907,6 +1114,36 @@ class AMTRELAY(Data, code=260):
 
 
 @dataclass(frozen=True)
+class RESINFO(Data, code=261):
+    """What a resolver says of itself (RFC 9606, section 4)."""
+
+    strings: Strings
+
+    if TYPE_CHECKING:
+        def __init__(self, strings: StringsLike) -> None: ...
+
+
+@dataclass(frozen=True)
+class WALLET(Data, code=262):
+    """A public address of a wallet (the template WALLET of IANA's registry)."""
+
+    strings: Strings
+
+    if TYPE_CHECKING:
+        def __init__(self, strings: StringsLike) -> None: ...
+
+
+@dataclass(frozen=True)
+class CLA(Data, code=263):
+    """The convergence layer adapters of a node of the Bundle Protocol (the template CLA of IANA's registry)."""
+
+    strings: Strings
+
+    if TYPE_CHECKING:
+        def __init__(self, strings: StringsLike) -> None: ...
+
+
+@dataclass(frozen=True)
 class IPN(Data, code=264):
     """A node of the Bundle Protocol (the template IPN of IANA's registry).
 
@@ -914,3 +1151,35 @@ class IPN(Data, code=264):
     """
 
     node: U64
+
+
+@dataclass(frozen=True)
+class TA(Data, code=32768):
+    """The digest of a key that is trusted (the reference of IANA's registry, as DS).
+
+    key_tag: The tag of the key.
+    algorithm: The algorithm of the key.
+    digest_type: The digest algorithm.
+    digest: The digest.
+    """
+
+    key_tag: U16
+    algorithm: U8
+    digest_type: U8
+    digest: Rest
+
+
+@dataclass(frozen=True)
+class DLV(Data, code=32769):
+    """The digest of a key of a zone that is looked up aside (RFC 4431, section 2).
+
+    key_tag: The tag of the key.
+    algorithm: The algorithm of the key.
+    digest_type: The digest algorithm.
+    digest: The digest.
+    """
+
+    key_tag: U16
+    algorithm: U8
+    digest_type: U8
+    digest: Rest

@@ -2,7 +2,7 @@
 
 import struct
 from ctypes import byref, c_size_t
-from typing import Iterable, Iterator, List, Optional, Tuple, Union
+from typing import Iterable, Iterator, List, NoReturn, Optional, Tuple, Union, final
 
 from . import _checks
 from ._checks import Bytes
@@ -17,11 +17,14 @@ from ._table import ALONE_SIZE, FieldValue, Table, table_of
 # What is between the owner and the data: the type, the class, the TTL and the data length.
 _FIXED = struct.Struct("!HHIH")
 _MOST = 65535
+# The longest time to live (RFC 2181, section 8).
+_MOST_TTL = 2**31 - 1
 # The names of ordinary data grow by no more octets when they are whole.
 _USUAL_GROWTH = 256
 _record_data = library.dnw_record_data
 
 
+@final
 class Record:
     """A record of a message, or one that was made (RFC 1035, section 4.1.3).
 
@@ -56,15 +59,19 @@ class Record:
     _owner: Optional[Name]
     _data: Optional[Data]
 
+    def __init_subclass__(cls) -> NoReturn:
+        raise TypeError("Record has no subclasses")
+
     def __init__(self, owner: NameLike, ttl: int, data: Data, record_class: TypeLike = RecordClass.IN) -> None:
-        """Raises `ValueError` if the owner is relative, and `DataTooLong` if the data have more than 65535 octets."""
+        """Raises `ValueError` if the owner is relative, or the TTL is above 2147483647 (RFC 2181, section 8), and `DataTooLong`
+        if the data have more than 65535 octets."""
         if not isinstance(data, Data):
             raise _checks.wrong_type("data", "a class of data is", data)
         name = whole_name("owner", owner)
-        octets, code = data.to_wire(), data.record_type
+        octets, code = _checks.octets("data", data.to_wire()), code_of(RecordType, "data", data.record_type)
         if len(octets) > _MOST:
             raise DataTooLong()
-        codes = code_of(RecordClass, "record_class", record_class), _checks.number("ttl", ttl, 2**32 - 1)
+        codes = code_of(RecordClass, "record_class", record_class), _checks.number("ttl", ttl, _MOST_TTL)
         self._message, self._start = name.wire + _FIXED.pack(code, *codes, len(octets)) + octets, 0
         self._type, (self._class, self._ttl) = code, codes
         self._end = len(self._message)
@@ -94,7 +101,8 @@ class Record:
 
         Raises `BadText` if the first word is not a name, `BadTime` if there is no TTL, `UnknownText` if there is no
         type, and `BadData` if the rest is not data of the type; and `UnclosedList`, `UnclosedQuote`, `TextCut` or
-        `IllegalCharacter` if parentheses, quotes or escapes are not closed, or a parenthesis is not allowed.
+        `IllegalCharacter` if parentheses, quotes or escapes are not closed, a parenthesis is not allowed, or a name in a
+        `str` has a character that is not ASCII.
 
         >>> print(Record.from_text("www 1h IN CNAME @", origin=Name("example.")))
         www.example. 3600 IN CNAME example.
@@ -238,7 +246,8 @@ class Record:
             check(NotRrsig.number)
         kind = self.fields()[0]
         # The library selects again. Other records are left out here, since their data may not be valid.
-        found = [it for it in records if (it._type, it._class, it.owner) == (kind, self._class, self.owner)]
+        given = [own_record("records", it) for it in records]
+        found = [it for it in given if (it._type, it._class, it.owner) == (kind, self._class, self.owner)]
         own = self.to_wire()
         wire = own + b"".join(record.to_wire() for record in found)
         # A record is not longer in canonical form, and the signature is left out.
@@ -308,6 +317,13 @@ class Record:
 
     def __repr__(self) -> str:
         return f"<Record {self.owner} {self.ttl} {self.record_class} {self.record_type} {self.raw_data.hex()}>"
+
+
+def own_record(what: str, record: object) -> Record:
+    """Returns an argument that has to be a record. One of a class that only says that it is `Record` is none."""
+    if type(record) is not Record:
+        raise _checks.wrong_type(what, "a Record is", record)
+    return record
 
 
 def record_at(table: Table, at: int, start: int) -> Record:

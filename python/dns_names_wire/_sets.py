@@ -1,14 +1,14 @@
 """Sets of records."""
 
-from typing import Dict, FrozenSet, Iterable, List, Sequence, Tuple, Union, overload
+from typing import Dict, FrozenSet, Iterable, List, NoReturn, Sequence, Tuple, Union, final, overload
 
-from . import _checks
 from ._codes import RecordClass, RecordType
 from ._data import Data, NameLike, TypeLike
 from ._names import Name
-from ._records import Record
+from ._records import Record, own_record
 
 
+@final
 class RRset(Sequence[Record]):
     """The records of one owner, class and type, each once and in their order: an immutable sequence (RFC 2181, section 5).
 
@@ -29,12 +29,12 @@ class RRset(Sequence[Record]):
 
     _records: Tuple[Record, ...]
 
+    def __init_subclass__(cls) -> NoReturn:
+        raise TypeError("RRset has no subclasses")
+
     def __init__(self, records: Iterable[Record]) -> None:
         """Raises `ValueError` if there are no records, or they have more than one owner, class or type."""
-        found = list(records)
-        for record in found:
-            if not isinstance(record, Record):
-                raise _checks.wrong_type("records", "a Record is", record)
+        found = [own_record("records", record) for record in records]
         keys = {(record.owner, record.record_class, record.record_type) for record in found}
         if len(keys) != 1:
             raise ValueError(f"records: they have {len(keys)} owners, classes and types, and a set has one")
@@ -109,6 +109,6 @@ def rrsets(records: Iterable[Record]) -> Tuple[RRset, ...]:
     (<RRset a. IN NS [2]>, <RRset b.a. IN A [1]>)
     """
     found: Dict[Tuple[Name, int, int], List[Record]] = {}
-    for record in records:
+    for record in map(lambda one: own_record("records", one), records):
         found.setdefault((record.owner, record.record_class, record.record_type), []).append(record)
     return tuple(map(RRset, found.values()))

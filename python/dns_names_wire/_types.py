@@ -2,7 +2,7 @@
 
 from array import array
 from ctypes import addressof, byref, c_int32, c_size_t
-from typing import AbstractSet, FrozenSet, Iterable, Iterator, Union
+from typing import AbstractSet, FrozenSet, Iterable, Iterator, NoReturn, Union, final
 
 from . import _checks
 from ._checks import Bytes
@@ -12,8 +12,11 @@ from ._library import library, room_of, taken
 
 
 _CODE_SIZE = 2
+# The octets of the longest bitmap, which are the most that data have.
+_MOST_SIZE = 65535
 
 
+@final
 class TypeSet(AbstractSet[int]):
     """A set of record types by their codes, as in the bitmap of an NSEC or NSEC3 record (RFC 4034, section 4.1.2).
 
@@ -30,6 +33,9 @@ class TypeSet(AbstractSet[int]):
 
     _codes: FrozenSet[int]
 
+    def __init_subclass__(cls) -> NoReturn:
+        raise TypeError("TypeSet has no subclasses")
+
     def __init__(self, codes: Iterable[Union[int, str]] = ()) -> None:
         """Creates the set of these types, each its code, from 0 to 65535, or its name."""
         self._codes = frozenset(int(code_of(RecordType, "codes", code)) for code in codes)
@@ -42,7 +48,8 @@ class TypeSet(AbstractSet[int]):
         or if the bitmap has more than 65535 octets.
         """
         octets = _checks.octets("bitmap", bitmap)
-        size = 8 * len(octets)
+        # A longer bitmap is refused before its room is used.
+        size = 8 * min(len(octets), _MOST_SIZE)
         room, count = room_of(_CODE_SIZE * size), c_size_t()
         check(library.dnw_types_read(octets, len(octets), addressof(room), size, byref(count)))
         made = cls.__new__(cls)

@@ -98,13 +98,13 @@ class ByChance(unittest.TestCase):
     def field(self, kind, size):
         if kind == "n":
             return self.name(size)
-        if kind in "sS":
+        if kind in "scS":
             return b"".join(bytes([len(text)]) + text for text in [self.octets(6)] * self.rng.randrange(3 if kind == "S" else 2))
         if kind in "BP":
             return self.rng.choice([b"", b"\0\1\x40", b"\0\0", b"\1\1\2\0\1\1", b"\0\1\0\2ab", b"\0\2\0\0\0\1\0\0"])
         if kind in "lgpN":
             return self.rng.choice([b"", b"\0\1a", b"\0", b"\1\2\xc0\0\2\1", b"\1a\0", b"\0\1\x08\1\x0a", b"\1\2\0\1ab"])
-        return self.octets(5) if kind == "o" else bytes({"i": 4, "I": 16, "t": 2, "T": 4}.get(kind) or int(kind))
+        return self.octets(5) if kind in "ox" else bytes({"i": 4, "I": 16, "t": 2, "T": 4}.get(kind) or int(kind))
 
     def message(self):
         wire, count = bytearray.fromhex("0001800000010000000000000377777707 6578616d706c65000001 0001".replace(" ", "")), 3
@@ -150,7 +150,7 @@ class Classes(unittest.TestCase):
         for code, kind in kinds.items():
             self.assertEqual(len(kind._kinds), len(dataclasses.fields(kind)))
             self.assertEqual(dnw.type_text(code).replace("-", "_"), kind.__name__)
-        self.assertEqual((dnw.RRSIG._kinds, dnw.NSEC3._kinds, dnw.KX._kinds), ("t114TT2no", "112ssB", "2n"))
+        self.assertEqual((dnw.RRSIG._kinds, dnw.NSEC3._kinds, dnw.KX._kinds), ("t114TT2no", "112ccB", "2n"))
         for kind in [dnw.Data, dnw.Unknown]:
             self.assertRaises(TypeError, kind.from_text, "a")
             self.assertRaises(TypeError, kind.from_wire, b"a")

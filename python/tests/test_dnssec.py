@@ -168,7 +168,8 @@ class Sums(unittest.TestCase):
             (ValueError, lambda: dnw.nsec3_hash(name, 65536, b"", 10)),
             (ValueError, lambda: dnw.ds_digest(name, bytes(4), 256)),
             (TypeError, lambda: dnw.key_tag("")),
-            (TypeError, lambda: dnw.ds_digest("a.", bytes(4), 2)),
+            (TypeError, lambda: dnw.ds_digest(b"a.", bytes(4), 2)),
+            (ValueError, lambda: dnw.ds_digest("a", bytes(4), 2)),
         ]:
             self.assertRaises(error, call)
 

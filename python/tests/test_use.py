@@ -78,6 +78,13 @@ class RelativeNames(unittest.TestCase):
             lambda: Question(relative, 1),
             lambda: Message.query(relative, 1),
             lambda: RRset.of(relative, 60, [address]),
+            lambda: Name("www", relative),
+            lambda: Record.from_text("a 60 A 192.0.2.1", relative),
+            lambda: MX.from_text("10 a", relative),
+            lambda: dnw.ds_digest(relative, b"\1\0\3\1", 2),
+            lambda: dnw.nsec3_hash("www.example", 0, b"", 0),
+            lambda: dnw.nsec_covers(relative, "a.", "b."),
+            lambda: dnw.zone_digest(relative, [], 1),
         ]:
             with self.assertRaisesRegex(ValueError, "is relative; Name.absolute or an origin completes it$"):
                 make()
@@ -187,10 +194,12 @@ class Data(unittest.TestCase):
             (lambda: MX(65536, "mail."), ValueError),
             (lambda: MX(10, "a..b."), dnw.EmptyLabel),
             (lambda: A("192.0.2"), ValueError),
-            (lambda: TXT("text"), TypeError),
-            (lambda: TXT(b"text"), TypeError),
+            (lambda: TXT(7), TypeError),
+            (lambda: TXT((7,)), TypeError),
+            (lambda: TXT("half a pair: \ud800"), dnw.NotUtf8),
+            (lambda: TXT("\u00e9" * 128), dnw.DataTooLong),
             (lambda: TXT((bytes(256),)), dnw.DataTooLong),
-            (lambda: dnw.CAA(0, "issue", b""), TypeError),
+            (lambda: dnw.NSEC3PARAM(1, 0, 0, "aabb"), TypeError),
             (lambda: dnw.TSIG("a.", 2**48, 0, b"", 0, 0, b""), ValueError),
             (lambda: dnw.TSIG("a.", 0, 0, bytes(65536), 0, 0, b""), dnw.DataTooLong),
             (lambda: dnw.APL([(1, 256, False, b"")]), ValueError),
@@ -323,9 +332,8 @@ class Texts(unittest.TestCase):
             ],
         )
 
-    def test_pydoc_fits_on_a_few_screens(self) -> None:
-        lines = pydoc.render_doc(dnw, renderer=pydoc.plaintext).splitlines()
-        self.assertLess(len(lines), 120)
+    def test_the_page_of_the_package_fits_on_a_screen(self) -> None:
+        self.assertLess(len(pydoc.getdoc(dnw).splitlines()), 60)
         names = {name for name, value in vars(dnw).items() if name[0] != "_" and not inspect.ismodule(value)}
         shown = set(re.findall(r"\w+", dnw.__doc__ or ""))
         hidden = {name for name in names - shown if not isinstance(getattr(dnw, name), type)}

@@ -53,7 +53,9 @@ fn resolve() -> Outcome<()> {
         return Err("usage: resolve ADDRESS PORT NAME TYPE".into());
     }
     let server = SocketAddr::new(words[0].parse()?, words[1].parse()?);
-    let (name, record_type): (Name, RecordType) = (words[2].parse()?, words[3].parse()?);
+    let (mut name, record_type): (Name, RecordType) = (words[2].parse()?, words[3].parse()?);
+    // As it is typed, with or without its last dot.
+    name.set_fqdn(true);
     // An id that a stranger cannot guess.
     let id = RandomState::new().build_hasher().finish() as u16;
     let octets = MessageBuilder::query(id, &name, record_type).edns(&Edns::new(PAYLOAD)).finish(512)?;

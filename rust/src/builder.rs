@@ -311,7 +311,9 @@ impl MessageBuilder {
     pub fn question<'n>(&mut self, name: impl Into<NameRef<'n>>, record_type: RecordType, class: Class) -> &mut Self {
         let start = self.items.len();
         self.items.push(QUESTIONS);
-        name.into().put(&mut self.items);
+        if let Err(error) = name.into().put(&mut self.items) {
+            self.failure = Some(error);
+        }
         self.items.extend_from_slice(&record_type.code().to_be_bytes());
         self.items.extend_from_slice(&class.code().to_be_bytes());
         self.added(QUESTIONS, start);

@@ -243,6 +243,8 @@ pub enum ErrorKind {
     TooManyIterations,
     /// An address, a prefix or a gateway that its family or type does not allow.
     BadFamily,
+    /// A name that is not fully qualified, for a message, a record or an origin. The C library takes none, so it has no number.
+    RelativeName,
     /// Another error, by its number in `dns_names_wire.h`.
     Other(u32),
 }
@@ -293,7 +295,7 @@ const NUMBERS: [(u32, ErrorKind); 41] = [
 ];
 
 impl ErrorKind {
-    /// Returns its number in `dns_names_wire.h`.
+    /// Returns its number in `dns_names_wire.h`, or 0 if it has none.
     ///
     /// ```
     /// assert_eq!(dns_names_wire::ErrorKind::NameTooLong.number(), 7);
@@ -443,7 +445,10 @@ impl fmt::Debug for Error {
 
 impl fmt::Display for ErrorKind {
     fn fmt(&self, f: &mut fmt::Formatter<'_>) -> fmt::Result {
-        show(self.number(), f)
+        match self {
+            ErrorKind::RelativeName => f.pad("a name is not fully qualified"),
+            kind => show(kind.number(), f),
+        }
     }
 }
 

@@ -11,6 +11,15 @@ use core::fmt;
 use core::iter::FusedIterator;
 
 /// A field of the data of a record. All but `Types` borrow from the message.
+///
+/// ```
+/// use dns_names_wire::{Field, RecordBuf};
+///
+/// let record: RecordBuf = "a. 60 MX 10 b.".parse()?;
+/// let fields: Vec<Field<'_>> = record.as_record().fields().collect::<Result<_, _>>()?;
+/// assert!(matches!(fields[..], [Field::Number(10), Field::Name(host)] if host.to_string() == "b."));
+/// # Ok::<(), dns_names_wire::Error>(())
+/// ```
 #[derive(Clone, PartialEq, Eq)]
 #[non_exhaustive]
 pub enum Field<'a> {
@@ -162,14 +171,11 @@ impl<'a> Fields<'a> {
         Ok(&self.message[field.offset..field.offset + field.len])
     }
 
-    /// Reads a field of `N` octets, without a call of the C library.
+    /// Reads a field of `N` octets.
     #[inline]
     fn array<const N: usize>(&mut self) -> Result<[u8; N], Error> {
-        let octets = self.message.get(self.next.offset..).and_then(|left| left.get(..N));
-        let array = array(octets.unwrap_or_default(), self.next.offset)?;
-        self.next.offset += N;
-        self.next.number += 1;
-        Ok(array)
+        let start = self.next.offset;
+        array(self.octets()?, start)
     }
 
     #[inline]
@@ -285,10 +291,7 @@ impl<'a> Fields<'a> {
     /// Fails with `WrongDataLength` if octets are left.
     #[inline]
     pub(crate) fn end(&mut self) -> Result<(), Error> {
-        match self.next.offset == self.message.len() {
-            true => Ok(()),
-            false => Err(Error::from(ErrorKind::WrongDataLength).at_offset(self.next.offset)),
-        }
+        ffi::next_field(self.message, self.start, self.form, &mut self.next).map(|_| ())
     }
 }
 
@@ -318,8 +321,7 @@ pub(crate) mod put {
     }
 
     pub(crate) fn name(octets: &mut impl Sink, value: &NameRef<'_>) -> Put {
-        value.put(octets);
-        Ok(())
+        value.put(octets)
     }
 
     pub(crate) fn u8(octets: &mut impl Sink, value: &u8) -> Put {
@@ -613,6 +615,13 @@ impl fmt::Debug for Pairs<'_> {
 }
 
 /// An address prefix of a list (RFC 3123, section 4).
+///
+/// ```
+/// use dns_names_wire::Prefix;
+///
+/// let prefix = Prefix { family: 1, length: 28, is_negated: true, octets: &[192, 168, 38] };
+/// assert_eq!(format!("{prefix:?}"), "!1:0xC0A826/28");
+/// ```
 #[derive(Clone, Copy, PartialEq, Eq)]
 pub struct Prefix<'a> {
     /// The family of the address: 1 for IPv4, 2 for IPv6.

@@ -192,7 +192,7 @@ impl Name {
     /// # Errors
     ///
     /// `EmptyLabel` (also for an empty text), `LabelTooLong`, `NameTooLong`, `BadEscape` or `TextCut` if the text is not
-    /// a name, with the offset and the rule.
+    /// a name, with the offset and the rule; or `RelativeName` if the origin is not fully qualified.
     ///
     /// ```
     /// use dns_names_wire::{Error, Name};
@@ -208,7 +208,7 @@ impl Name {
     #[inline]
     pub fn from_text(text: &str, origin: Option<&Name>) -> Result<Self, Error> {
         let mut form = [0; FORM_SIZE];
-        let parsed = ffi::parse(text, origin.map_or(&[], |name| name.as_wire()), &mut form)?;
+        let parsed = ffi::parse(text, origin.map_or(Ok(&[][..]), Name::whole_wire)?, &mut form)?;
         Ok(Name::of_form(&form, parsed.len, parsed.is_fqdn))
     }
 
@@ -259,6 +259,15 @@ impl Name {
         match &self.0 {
             Form::Inline { len, octets, .. } => &octets[..usize::from(*len)],
             Form::Boxed { octets, .. } => octets,
+        }
+    }
+
+    /// Returns the wire form, or fails with `RelativeName`.
+    #[inline]
+    pub(crate) fn whole_wire(&self) -> Result<&[u8], Error> {
+        match self.is_fqdn() {
+            true => Ok(self.as_wire()),
+            false => Err(ErrorKind::RelativeName.into()),
         }
     }
 

@@ -1,5 +1,5 @@
 //! Names that are borrowed from a message.
-use crate::error::Error;
+use crate::error::{Error, ErrorKind};
 use crate::ffi::{self, FORM_SIZE};
 use crate::form;
 use crate::labels::Labels;
@@ -10,7 +10,8 @@ use core::cmp::Ordering;
 use core::fmt;
 use core::hash::{Hash, Hasher};
 
-/// A name that is borrowed from its message: the message and two offsets. It is fully qualified.
+/// A name that is borrowed from its message: the message and two offsets. A name of a message is fully qualified. One that is
+/// borrowed from a [`Name`] is if that is; a message or a record takes no other.
 ///
 /// Each print or comparison of a compressed name copies its labels to the stack. If that is done often, read a [`Name`].
 ///
@@ -28,7 +29,11 @@ use core::hash::{Hash, Hasher};
 pub struct NameRef<'a> {
     message: &'a [u8],
     start: usize,
-    end: usize,
+    /// the number of its own octets
+    len: u16,
+    is_fqdn: bool,
+    /// whether it is known that its own octets are its wire form
+    is_whole: bool,
 }
 
 impl<'a> NameRef<'a> {
@@ -47,33 +52,49 @@ impl<'a> NameRef<'a> {
     /// ```
     pub fn read(message: &'a [u8], start: usize) -> Result<Self, Error> {
         let read = ffi::read(message, start, &mut [0; FORM_SIZE])?;
-        Ok(NameRef { message, start, end: read.end })
+        Ok(NameRef::with_len(message, start, read.end, read.len))
     }
 
     /// Returns the name at an offset of a message, where it was read before, with the offset after its own octets.
     #[inline]
     pub(crate) fn checked(message: &'a [u8], start: usize, end: usize) -> Self {
-        NameRef { message, start, end }
+        // A name has at most 256 octets of its own.
+        NameRef { message, start, len: (end - start) as u16, is_fqdn: true, is_whole: false }
     }
 
-    /// Calls a function with the wire form.
+    /// Returns the same name, if its wire form has so many octets. It is what the name has itself if these are as many.
     #[inline]
-    pub(crate) fn with_form<T>(&self, use_form: impl FnOnce(&[u8]) -> T) -> T {
-        match pass_name(self.message, self.start) {
-            // A name without a pointer is its wire form.
-            Some((end, false)) => use_form(&self.message[self.start..end]),
-            _ => {
-                let mut form = [0; FORM_SIZE];
-                let read = ffi::read(self.message, self.start, &mut form).expect("a name that was read before");
-                use_form(&form[..read.len])
-            }
+    pub(crate) fn with_len(message: &'a [u8], start: usize, end: usize, len: usize) -> Self {
+        NameRef { is_whole: end - start == len, ..NameRef::checked(message, start, end) }
+    }
+
+    /// Calls a function with the wire form, or fails with `RelativeName`.
+    #[inline]
+    pub(crate) fn with_form<T>(&self, use_form: impl FnOnce(&[u8]) -> Result<T, Error>) -> Result<T, Error> {
+        match self.is_fqdn {
+            true => self.with_labels(use_form),
+            false => Err(ErrorKind::RelativeName.into()),
         }
     }
 
-    /// Appends the wire form.
+    /// Calls a function with the wire form of the labels.
     #[inline]
-    pub(crate) fn put(&self, octets: &mut impl Sink) {
-        self.with_form(|form| octets.extend_from_slice(form));
+    fn with_labels<T>(&self, use_form: impl FnOnce(&[u8]) -> T) -> T {
+        if self.is_whole {
+            return use_form(&self.message[self.start..self.end()]);
+        }
+        let mut form = [0; FORM_SIZE];
+        let read = ffi::read(self.message, self.start, &mut form).expect("a name that was read before");
+        use_form(&form[..read.len])
+    }
+
+    /// Appends the wire form, or fails with `RelativeName`.
+    #[inline]
+    pub(crate) fn put(&self, octets: &mut impl Sink) -> Result<(), Error> {
+        self.with_form(|form| {
+            octets.extend_from_slice(form);
+            Ok(())
+        })
     }
 
     /// Returns the message.
@@ -107,7 +128,19 @@ impl<'a> NameRef<'a> {
     /// # Ok::<(), dns_names_wire::Error>(())
     /// ```
     pub fn end(&self) -> usize {
-        self.end
+        self.start + usize::from(self.len)
+    }
+
+    /// Returns whether the name is fully qualified.
+    ///
+    /// ```
+    /// use dns_names_wire::{Name, NameRef};
+    ///
+    /// assert!(NameRef::read(b"\x01a\0", 0)?.is_fqdn() && !NameRef::from(&Name::new()).is_fqdn());
+    /// # Ok::<(), dns_names_wire::Error>(())
+    /// ```
+    pub fn is_fqdn(&self) -> bool {
+        self.is_fqdn
     }
 
     /// Returns the labels, borrowed from the message.
@@ -140,7 +173,9 @@ impl<'a> NameRef<'a> {
     /// # Ok::<(), dns_names_wire::Error>(())
     /// ```
     pub fn to_name(&self) -> Name {
-        self.with_form(Name::of_octets)
+        let mut name = self.with_labels(Name::of_octets);
+        name.set_fqdn(self.is_fqdn);
+        name
     }
 }
 
@@ -160,13 +195,13 @@ pub(crate) fn pass_name(message: &[u8], start: usize) -> Option<(usize, bool)> {
 
 impl fmt::Display for NameRef<'_> {
     fn fmt(&self, f: &mut fmt::Formatter<'_>) -> fmt::Result {
-        self.with_form(|form| form::show(form, true, f))
+        self.with_labels(|form| form::show(form, self.is_fqdn, f))
     }
 }
 
 impl fmt::Debug for NameRef<'_> {
     fn fmt(&self, f: &mut fmt::Formatter<'_>) -> fmt::Result {
-        self.with_form(|form| form::show_debug(form, true, f))
+        self.with_labels(|form| form::show_debug(form, self.is_fqdn, f))
     }
 }
 
@@ -180,14 +215,14 @@ impl From<NameRef<'_>> for Name {
 impl<'a> From<&'a Name> for NameRef<'a> {
     fn from(name: &'a Name) -> Self {
         let form = name.as_wire();
-        NameRef { message: form, start: 0, end: form.len() }
+        NameRef { is_fqdn: name.is_fqdn(), ..NameRef::with_len(form, 0, form.len(), form.len()) }
     }
 }
 
-/// Compares labels, ignoring case. The messages may differ.
+/// Compares as names do: labels, ignoring case, and whether they are fully qualified. The messages may differ.
 impl PartialEq for NameRef<'_> {
     fn eq(&self, other: &Self) -> bool {
-        self.with_form(|own| other.with_form(|form| form::are_equal(own, form)))
+        self.is_fqdn == other.is_fqdn && self.with_labels(|own| other.with_labels(|form| form::are_equal(own, form)))
     }
 }
 
@@ -195,7 +230,7 @@ impl Eq for NameRef<'_> {}
 
 impl PartialEq<Name> for NameRef<'_> {
     fn eq(&self, other: &Name) -> bool {
-        other.is_fqdn() && self.with_form(|own| form::are_equal(own, other.as_wire()))
+        *self == NameRef::from(other)
     }
 }
 
@@ -217,17 +252,24 @@ impl PartialOrd for NameRef<'_> {
 
 impl Ord for NameRef<'_> {
     fn cmp(&self, other: &Self) -> Ordering {
-        self.with_form(|own| other.with_form(|form| form::compare(own, form)))
+        let labels = || self.with_labels(|own| other.with_labels(|form| form::compare(own, form)));
+        self.is_fqdn.cmp(&other.is_fqdn).then_with(labels)
     }
 }
 
 impl Hash for NameRef<'_> {
     fn hash<H: Hasher>(&self, state: &mut H) {
-        self.with_form(|own| form::hash(own, true, state));
+        self.with_labels(|own| form::hash(own, self.is_fqdn, state));
     }
 }
 
 /// An iterator over consecutive names in a message. See [`names`].
+///
+/// ```
+/// let mut names = dns_names_wire::names(b"\x01b\0\x01a\xC0\0", 0);
+/// assert_eq!(names.by_ref().count(), 2);
+/// assert!(names.next().is_none());
+/// ```
 #[derive(Clone, Debug)]
 pub struct Names<'a> {
     message: &'a [u8],

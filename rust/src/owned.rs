@@ -219,9 +219,9 @@ lists! {
     /// ```
     /// use dns_names_wire::owned::WholeNames;
     ///
-    /// let mut names: WholeNames = ["a.".parse()?].into_iter().collect();
-    /// names.extend(["b.".parse()?]);
+    /// let names = WholeNames::new(&["a.".parse()?, "b.".parse()?])?;
     /// assert_eq!(names.as_wire(), b"\x01a\0\x01b\0");
+    /// assert!(WholeNames::new(&["a".parse()?]).is_err());
     /// # Ok::<(), dns_names_wire::Error>(())
     /// ```
     WholeNames: NameRef<'a>;
@@ -233,6 +233,14 @@ impl Texts {
     /// # Errors
     ///
     /// `DataTooLong` if one has more than 255 octets; or `MessageCut` if there is none.
+    ///
+    /// ```
+    /// use dns_names_wire::owned::Texts;
+    ///
+    /// assert_eq!(Texts::new(["v=spf1", "-all"])?.as_wire(), b"\x06v=spf1\x04-all");
+    /// assert!(Texts::new([[0; 256]]).is_err() && Texts::new([""; 0]).is_err());
+    /// # Ok::<(), dns_names_wire::Error>(())
+    /// ```
     pub fn new<T: AsRef<[u8]>>(texts: impl IntoIterator<Item = T>) -> Result<Self, Error> {
         let octets = field::Texts::to_wire(texts)?;
         field::Texts::from_wire(&octets)?;
@@ -246,6 +254,13 @@ impl Pairs {
     /// # Errors
     ///
     /// `DataTooLong` if a value has more than 65535 octets.
+    ///
+    /// ```
+    /// use dns_names_wire::owned::Pairs;
+    ///
+    /// assert!(Pairs::new([(3, [0, 53])])?.iter().eq([(3, &[0, 53][..])]));
+    /// # Ok::<(), dns_names_wire::Error>(())
+    /// ```
     pub fn new<T: AsRef<[u8]>>(pairs: impl IntoIterator<Item = (u16, T)>) -> Result<Self, Error> {
         field::Pairs::to_wire(pairs).map(Pairs)
     }
@@ -257,6 +272,14 @@ impl Prefixes {
     /// # Errors
     ///
     /// `DataTooLong` if one has more than 127 octets.
+    ///
+    /// ```
+    /// use dns_names_wire::{owned::Prefixes, Prefix};
+    ///
+    /// let prefix = Prefix { family: 1, length: 8, is_negated: false, octets: &[10] };
+    /// assert!(Prefixes::new([prefix])?.iter().eq([prefix]));
+    /// # Ok::<(), dns_names_wire::Error>(())
+    /// ```
     pub fn new<'p>(prefixes: impl IntoIterator<Item = Prefix<'p>>) -> Result<Self, Error> {
         let mut octets = Vec::new();
         for prefix in prefixes {
@@ -269,17 +292,24 @@ impl Prefixes {
     }
 }
 
-impl FromIterator<Name> for WholeNames {
-    fn from_iter<I: IntoIterator<Item = Name>>(names: I) -> Self {
-        let mut all = WholeNames(Vec::new());
-        all.extend(names);
-        all
-    }
-}
-
-impl Extend<Name> for WholeNames {
-    fn extend<I: IntoIterator<Item = Name>>(&mut self, names: I) {
-        names.into_iter().for_each(|name| self.0.extend_from_slice(name.as_wire()));
+impl WholeNames {
+    /// Returns these names.
+    ///
+    /// # Errors
+    ///
+    /// `RelativeName` if one is not fully qualified.
+    ///
+    /// ```
+    /// use dns_names_wire::{owned::WholeNames, ErrorKind};
+    ///
+    /// assert_eq!(WholeNames::new(&["a.".parse()?])?.iter().count(), 1);
+    /// assert_eq!(WholeNames::new(&["a".parse()?]).unwrap_err().kind(), ErrorKind::RelativeName);
+    /// # Ok::<(), dns_names_wire::Error>(())
+    /// ```
+    pub fn new<'n, N: Into<NameRef<'n>>>(names: impl IntoIterator<Item = N>) -> Result<Self, Error> {
+        let mut octets = Vec::new();
+        names.into_iter().try_for_each(|name| name.into().put(&mut octets))?;
+        Ok(WholeNames(octets))
     }
 }
 

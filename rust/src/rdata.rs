@@ -197,8 +197,8 @@ impl<'a> RData<'a> {
     ///
     /// # Errors
     ///
-    /// `DataTooLong` if a character string, or another field with a length octet, has more than 255 octets; or
-    /// `NoMemory`.
+    /// `DataTooLong` if a character string, or another field with a length octet, has more than 255 octets;
+    /// `RelativeName` if a name is not fully qualified; or `NoMemory`.
     ///
     /// ```
     /// assert_eq!(dns_names_wire::RData::from(std::net::Ipv4Addr::LOCALHOST).to_wire()?, [127, 0, 0, 1]);

@@ -4,7 +4,7 @@ use crate::error::{Error, ErrorKind};
 use crate::ffi::{self, FORM_SIZE};
 use crate::field::Fields;
 use crate::name::Name;
-use crate::name_ref::{pass_name, NameRef};
+use crate::name_ref::NameRef;
 use crate::rdata::RData;
 use crate::record_buf::put_record;
 use alloc::vec::Vec;
@@ -59,7 +59,7 @@ impl<'a> Record<'a> {
     /// ```
     pub fn read(message: &'a [u8], start: usize) -> Result<Self, Error> {
         let read = ffi::read_record(message, start, &mut [0; FORM_SIZE])?;
-        let owner = NameRef::checked(message, start, read.data_offset - FIXED_SIZE);
+        let owner = NameRef::with_len(message, start, read.data_offset - FIXED_SIZE, read.owner_len);
         let (record_type, class) = (read.record_type, read.record_class);
         Ok(Record { owner, record_type, class, ttl: read.ttl, end: read.end })
     }
@@ -72,20 +72,20 @@ impl<'a> Record<'a> {
     /// Returns the record at an offset of a message that was checked as a whole.
     #[inline]
     pub(crate) fn checked(message: &'a [u8], start: usize) -> Option<Self> {
-        let (owner_end, _) = pass_name(message, start)?;
-        let fixed: &[u8; FIXED_SIZE] = message.get(owner_end..owner_end + FIXED_SIZE)?.try_into().ok()?;
-        let [t, u, c, d, l0, l1, l2, l3, n, m] = *fixed;
-        let end = owner_end + FIXED_SIZE + usize::from(u16::from_be_bytes([n, m]));
-        if end > message.len() {
-            return None;
-        }
-        Some(Record {
-            owner: NameRef::checked(message, start, owner_end),
+        Record::read(message, start).ok()
+    }
+
+    /// Returns the record with these octets, of which no name is compressed, and whose owner ends at an offset.
+    #[inline]
+    pub(crate) fn of_whole(octets: &'a [u8], fixed: usize) -> Self {
+        let [t, u, c, d, l0, l1, l2, l3]: [u8; 8] = octets[fixed..fixed + 8].try_into().expect("a record is whole");
+        Record {
+            owner: NameRef::with_len(octets, 0, fixed, fixed),
             record_type: u16::from_be_bytes([t, u]),
             class: u16::from_be_bytes([c, d]),
             ttl: u32::from_be_bytes([l0, l1, l2, l3]),
-            end,
-        })
+            end: octets.len(),
+        }
     }
 
     /// Returns the name that owns the record.
@@ -431,6 +431,12 @@ impl fmt::Debug for Record<'_> {
 }
 
 /// An iterator over consecutive records in a message. See [`records`].
+///
+/// ```
+/// let mut records = dns_names_wire::records(b"\0\0\x01\0\x01\0\0\0\0\0\0\x40", 0);
+/// assert!(records.next().unwrap().is_ok() && records.next().unwrap().is_err());
+/// assert!(records.next().is_none());
+/// ```
 #[derive(Clone, Debug)]
 pub struct Records<'a> {
     message: &'a [u8],

@@ -44,7 +44,7 @@ impl RecordBuf {
     ///
     /// # Errors
     ///
-    /// `DataTooLong` if the data have more than 65535 octets, or a character string in them more than 255; or
+    /// `RelativeName` if the owner or a name in the data is not fully qualified; `DataTooLong` if the data have more than 65535 octets, or a character string in them more than 255; or
     /// `NoMemory`.
     ///
     /// ```
@@ -52,6 +52,7 @@ impl RecordBuf {
     ///
     /// let record = RecordBuf::new(&"a.".parse::<Name>()?, 60, std::net::Ipv4Addr::LOCALHOST)?;
     /// assert_eq!(record.to_string(), "a.\t60\tIN\tA\t127.0.0.1");
+    /// assert!(RecordBuf::new(&"a".parse::<Name>()?, 60, std::net::Ipv4Addr::LOCALHOST).is_err());
     /// # Ok::<(), dns_names_wire::Error>(())
     /// ```
     pub fn new<'n, 'd>(owner: impl Into<NameRef<'n>>, ttl: u32, data: impl Into<RData<'d>>) -> Result<Self, Error> {
@@ -70,7 +71,7 @@ impl RecordBuf {
     ///
     /// # Errors
     ///
-    /// `DataTooLong` if there are more than 65535 octets.
+    /// `RelativeName` if the owner is not fully qualified; or `DataTooLong` if there are more than 65535 octets.
     ///
     /// ```
     /// use dns_names_wire::{Class, Name, RecordBuf, RecordType};
@@ -105,7 +106,7 @@ impl RecordBuf {
     /// # Errors
     ///
     /// `BadText` if the first word is not a name, `BadTime` if there is no TTL, `UnknownText` if there is no type,
-    /// `BadData` if the rest is not data of the type; or `NoMemory`.
+    /// `BadData` if the rest is not data of the type; `RelativeName` if the origin is not fully qualified; or `NoMemory`.
     ///
     /// ```
     /// use dns_names_wire::{ErrorKind, Name, RecordBuf};
@@ -118,7 +119,7 @@ impl RecordBuf {
     /// # Ok::<(), dns_names_wire::Error>(())
     /// ```
     pub fn from_text(line: impl AsRef<[u8]>, origin: &Name) -> Result<Self, Error> {
-        RecordBuf::parse(line.as_ref(), origin.as_wire())
+        RecordBuf::parse(line.as_ref(), origin.whole_wire()?)
     }
 
     /// Returns a record of class IN, with data parsed from their text in master files. The origin is appended to names
@@ -126,7 +127,8 @@ impl RecordBuf {
     ///
     /// # Errors
     ///
-    /// `BadData` if the text is not data of the type; or `NoMemory`.
+    /// `BadData` if the text is not data of the type; `RelativeName` if the owner or the origin is not fully qualified; or
+    /// `NoMemory`.
     ///
     /// ```
     /// use dns_names_wire::{Name, RecordBuf, RecordType};
@@ -144,7 +146,7 @@ impl RecordBuf {
         text: impl AsRef<[u8]>,
         origin: Option<&Name>,
     ) -> Result<Self, Error> {
-        let (mut octets, origin) = (Vec::new(), origin.map_or(&[][..], Name::as_wire));
+        let (mut octets, origin) = (Vec::new(), origin.map_or(Ok(&[][..]), Name::whole_wire)?);
         let put = |octets: &mut Vec<u8>| {
             ffi::parse_data((Class::IN.code(), record_type.code()), text.as_ref(), origin, octets)
         };
@@ -193,7 +195,7 @@ impl RecordBuf {
     /// # Ok::<(), dns_names_wire::Error>(())
     /// ```
     pub fn as_record(&self) -> Record<'_> {
-        Record::checked(&self.octets, 0).expect("a record is whole")
+        Record::of_whole(&self.octets, self.fixed)
     }
 
     /// Returns the octets of the record, without compression.
@@ -214,7 +216,7 @@ impl RecordBuf {
     /// # Ok::<(), dns_names_wire::Error>(())
     /// ```
     pub fn owner(&self) -> NameRef<'_> {
-        NameRef::checked(&self.octets, 0, self.fixed)
+        NameRef::with_len(&self.octets, 0, self.fixed, self.fixed)
     }
 
     /// Returns the type.
@@ -288,7 +290,7 @@ pub(crate) fn put_record(
     put_data: impl FnOnce(&mut Vec<u8>) -> Result<(), Error>,
 ) -> Result<usize, Error> {
     let start = octets.len();
-    owner.put(octets);
+    owner.put(octets)?;
     let fixed = octets.len();
     let ([t, u], [c, d], [l0, l1, l2, l3]) =
         (record_type.code().to_be_bytes(), class.code().to_be_bytes(), ttl.to_be_bytes());

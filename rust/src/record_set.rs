@@ -90,7 +90,8 @@ impl RecordSet {
     ///
     /// # Errors
     ///
-    /// `BadData` if the data are of another type; or the errors of [`RData::to_wire`]. The set is then unchanged.
+    /// `BadData` if the data are of another type; `RelativeName` if the owner is not fully qualified; or the errors of
+    /// [`RData::to_wire`]. The set is then unchanged.
     ///
     /// ```
     /// use dns_names_wire::{Class, ErrorKind, Name, RecordSet, RecordType};
@@ -134,6 +135,7 @@ impl RecordSet {
 
     /// Appends data, unless the set has them. The function appends their octets.
     fn insert_put(&mut self, put: impl FnOnce(&mut Vec<u8>) -> Result<(), Error>) -> Result<bool, Error> {
+        self.owner.whole_wire()?;
         let start = self.octets.len();
         self.octets.extend_from_slice(&[0; LENGTH_SIZE]);
         let len = put(&mut self.octets).and_then(|()| {

@@ -7,6 +7,9 @@ use alloc::vec::{self, Vec};
 use core::fmt;
 use core::iter::FusedIterator;
 
+/// The octets of the longest data of a record.
+const MOST_OCTETS: usize = 65535;
+
 /// A set of record types, as in the bitmap of an NSEC or NSEC3 record (RFC 4034, section 4.1.2).
 ///
 /// It is iterated and printed in ascending order of the codes.
@@ -52,8 +55,8 @@ impl TypeSet {
     /// # Ok::<(), Error>(())
     /// ```
     pub fn from_bitmap(bitmap: &[u8]) -> Result<Self, Error> {
-        // Each bit that is set is a code.
-        let most = bitmap.iter().map(|octet| octet.count_ones() as usize).sum();
+        // Each bit that is set is a code. A bitmap that is longer than data is refused before its room is used.
+        let most = bitmap.iter().take(MOST_OCTETS).map(|octet| octet.count_ones() as usize).sum();
         let mut codes = alloc::vec![0; most];
         let count = ffi::types_read(bitmap, &mut codes)?;
         Ok(TypeSet { types: codes[..count].iter().copied().map(RecordType::from).collect() })

@@ -139,7 +139,7 @@ fn lists_are_made_of_their_items() {
     assert_eq!(format!("{prefix:?}"), "!1:0xC0A826/28");
     let long = Prefix { octets: &[1; 128], ..prefix };
     assert_eq!(owned::Prefixes::new([long]).unwrap_err().kind(), ErrorKind::DataTooLong);
-    let names: owned::WholeNames = [name("a."), name("b.")].into_iter().collect();
+    let names = owned::WholeNames::new(&[name("a."), name("b.")]).unwrap();
     assert!(names.iter().map(|name| name.to_name()).eq([name("a."), name("b.")]));
 }
 

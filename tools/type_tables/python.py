@@ -5,16 +5,17 @@ from __future__ import annotations
 import textwrap
 from typing import Dict, Iterable, Iterator, List, Union
 
-from .bound import bound, check_shared
+from .bound import bound
 from .listed import Type, TypeList
 from .message_codes import Code
 from .outputs import Parts, Whole, filled, lines
 
 CODES, SHOWN, DATA = (f"python/dns_names_wire/{it}.py" for it in ("_codes", "__init__", "_rdata"))
 WIDTH = 120
-HEAD = '''"""The data of records: a frozen dataclass for each type."""
+# The types whose data are those of keys.
+KEYS = ("DNSKEY", "CDNSKEY")
+HEAD = '''"""The data of records: a class for each type."""
 
-from dataclasses import dataclass
 from ipaddress import IPv4Address, IPv6Address
 from typing import TYPE_CHECKING, Iterable
 
@@ -25,6 +26,7 @@ from ._data import (
     U32,
     U48,
     U64,
+    Counted,
     Data,
     IPv4Like,
     IPv6Like,
@@ -33,33 +35,29 @@ from ._data import (
     Params,
     Prefixes,
     Rest,
+    RestString,
     Shaped,
     String,
+    StringLike,
     Strings,
+    StringsLike,
     Time,
     TypeLike,
     TypesLike,
     WholeNames,
 )
+from ._dnssec import Key
 from ._names import Name
 from ._types import TypeSet
+from ._values import dataclass
 
-# What a class takes is written for type checkers alone: the dataclass makes __init__, and `Data` takes each field as its
-# kind says.
-
-
-@dataclass(frozen=True)
-class _Target(Data):
-    target: Name
-
-    if TYPE_CHECKING:
-        def __init__(self, target: NameLike) -> None: ...
+# What a class takes is written for type checkers alone: `Data` takes each field as its kind says.
 '''
 
 
 def docstring(its_class: Type) -> Iterator[str]:
     """What a class says: the sentence of its type, and what its own fields say."""
-    said = [it for it in its_class.fields if it.words and not its_class.like]
+    said = [it for it in its_class.fields if it.words]
     text = textwrap.wrap(f"{its_class.about}.", WIDTH - 10, break_on_hyphens=False)
     if not said and len(text) == 1:
         yield f'    """{text[0]}"""'
@@ -87,29 +85,12 @@ def init(it: Type) -> Iterator[str]:
 
 
 def class_lines(it: Type) -> Iterator[str]:
-    is_target = [own.name for own in it.fields] == ["target"] and not it.like
-    base = it.like or ("_Target" if is_target else "Data")
-    yield from ("", "")
-    if base == "Data":
-        yield "@dataclass(frozen=True)"
-    yield f"class {it.identifier}({base}, code={it.code}):"
+    yield from ("", "", "@dataclass(frozen=True)")
+    yield f"class {it.identifier}({'Key' if it.name in KEYS else 'Data'}, code={it.code}):"
     yield from docstring(it)
-    if base == "Data":
-        yield ""
-        yield from (f"    {own.name}: {bound(kind).python}" for own, kind in zip(it.fields, it.kinds))
-        yield from init(it)
-
-
-def in_order(its: TypeList) -> List[Type]:
-    """The types with a class, by their codes, each before those that share its fields."""
-    sharing: Dict[str, List[Type]] = {}
-    for it in its.with_class:
-        sharing.setdefault(it.like or it.name, []).append(it)
-    for name, group in sharing.items():
-        for it in group:
-            check_shared(it, its.named(name))
-    firsts = [it for it in its.with_class if not it.like]
-    return [it for own in firsts for it in [own, *(other for other in sharing[own.name] if other is not own)]]
+    yield ""
+    yield from (f"    {own.name}: {bound(kind).python}" for own, kind in zip(it.fields, it.kinds))
+    yield from init(it)
 
 
 def names_of(name: str, codes: List[Code]) -> Iterator[str]:
@@ -140,7 +121,7 @@ def constants(its: TypeList, codes: Dict[str, List[Code]]) -> Parts:
 
 def outputs(its: TypeList, codes: Dict[str, List[Code]]) -> List[Union[Parts, Whole]]:
     shown = filled(sorted(f"{it.identifier} as {it.identifier}" for it in its.with_class), 4, WIDTH - 4)
-    classes = [line for it in in_order(its) for line in class_lines(it)]
+    classes = [line for it in its.with_class for line in class_lines(it)]
     return [
         constants(its, codes),
         Parts(SHOWN, [f"from ._rdata import (\n{shown})  # fmt: skip\n"]),
