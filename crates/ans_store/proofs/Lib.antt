@@ -1,0 +1,4 @@
+pub mod Octets
+pub mod Names
+pub mod Search
+pub mod Reading

@@ -1,0 +1,3 @@
+pub mod Zones
+pub mod Stored
+pub mod Loading
