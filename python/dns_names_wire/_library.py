@@ -2,7 +2,6 @@
 
 import ctypes
 import os
-import pathlib
 from ctypes import POINTER, c_bool, c_char, c_char_p, c_int32, c_size_t, c_uint8, c_uint16, c_uint32, c_void_p
 from typing import Any, List
 
@@ -281,12 +280,12 @@ Install the wheel, which has it: out/dist/python of the repository, after tools/
 
 def _open() -> ctypes.CDLL:
     folder = os.environ.get("DNW_LIB_DIR")
-    path = (pathlib.Path(folder) if folder else pathlib.Path(__file__).resolve().parent) / LIBRARY
+    path = os.path.join(folder or os.path.dirname(os.path.realpath(__file__)), LIBRARY)
     which = "the folder that DNW_LIB_DIR names" if folder else "the folder of the package, since DNW_LIB_DIR is not set"
-    if not path.is_file():
+    if not os.path.isfile(path):
         raise ImportError(f"there is no {path}; it was looked for in {which}.\n{_HOW}")
     try:
-        return ctypes.CDLL(str(path))
+        return ctypes.CDLL(path)
     except OSError as error:
         raise ImportError(f"{path} cannot be loaded: {error}. A wheel's is for one machine and one C library of Linux.\n{_HOW}") from error
 

@@ -1,16 +1,14 @@
 """Whole messages, which are checked once."""
 
-import secrets
 import struct
 from ctypes import addressof, byref, c_bool
-from dataclasses import dataclass
 from functools import lru_cache
 from typing import TYPE_CHECKING, Any, Callable, Dict, Iterable, List, Optional, Tuple, Type
 
 from . import _checks
 from ._checks import Bytes
 from ._codes import OpCode, RecordClass, RecordType, ResponseCode, code_of
-from ._data import NameLike, TypeLike, put_pairs, take_pairs
+from ._data import NameLike, TypeLike, put_pairs
 from ._errors import SECTIONS, DataTooLong, check, check_item
 from ._library import (
     ROOM_SIZE,
@@ -29,10 +27,11 @@ from ._library import Message as Read
 from ._library import Writer
 from ._listing import message_lines
 from ._names import Name, whole_name
-from ._options import EdnsOption
+from ._options import EdnsOption, OptionLike, options_of
 from ._records import Record, record_at
 from ._sets import RRset, rrsets
 from ._table import Table, read_table
+from ._values import Value, dataclass
 
 # The type and the class of a question.
 _CODES = struct.Struct("!HH")
@@ -60,7 +59,7 @@ _MOST_BLOCK, _OPTION_SIZE = 512, 4
 
 
 @dataclass(frozen=True)
-class Header:
+class Header(Value):
     """The fields of a header except for the counts (RFC 1035, section 4.1.1; RFC 4035, section 3.2).
 
     `response_code` is the low four bits of the response code; `Message.response_code` has all bits.
@@ -111,7 +110,7 @@ _Parts = Tuple[Tuple["Question", ...], Tuple[Record, ...], Tuple[Record, ...], T
 
 
 @dataclass(frozen=True)
-class Question:
+class Question(Value):
     """A question (RFC 1035, section 4.1.2): its fully qualified name, type and class, each of which may be a text.
 
     `str` returns the name, class and type, with spaces between them.
@@ -140,14 +139,15 @@ class Question:
 
 
 @dataclass(frozen=True)
-class Edns:
+class Edns(Value):
     """The EDNS fields of a message (RFC 6891, section 6.1).
 
-    `max_payload` is the size of the largest message that the sender accepts, at least 512 octets. The options may be given as
-    pairs of a code and its octets.
+    `max_payload` is the size of the largest message that the sender accepts, at least 512 octets. The options may be given by what
+    they say, or as pairs of a code and its octets.
 
-    >>> Edns(options=[(3, b"")]).options
-    (EdnsOption(code=3, octets=b''),)
+    >>> from dns_names_wire import Nsid
+    >>> Edns(options=[Nsid()]).options, Edns(options=[(3, b"")]).options
+    ((EdnsOption(code=3, octets=b''),), (EdnsOption(code=3, octets=b''),))
     """
 
     max_payload: int = 1232
@@ -157,12 +157,12 @@ class Edns:
 
     if TYPE_CHECKING:
         def __init__(
-            self, max_payload: int = 1232, version: int = 0, dnssec_ok: bool = False, options: Iterable[Tuple[int, Bytes]] = ()
+            self, max_payload: int = 1232, version: int = 0, dnssec_ok: bool = False, options: Iterable[OptionLike] = ()
         ) -> None: ...
 
     def __post_init__(self) -> None:
         if self.options != ():
-            self.__dict__["options"] = tuple(EdnsOption(*pair) for pair in take_pairs("options", self.options))
+            self.__dict__["options"] = options_of("options", self.options)
 
     def _record(self, code: int) -> bytes:
         """Returns the OPT record (RFC 6891, section 6.1.2), with the high bits of a response code."""
@@ -217,6 +217,10 @@ class Message:
 
     def __init__(self) -> None:
         raise TypeError("a Message is made by Message.from_wire, build, query or reply")
+
+    def __init_subclass__(cls) -> None:
+        if cls.__module__ != __name__:
+            raise TypeError("Message has no subclasses")
 
     @classmethod
     def from_wire(cls, message: Bytes, *, max_pointers: int = _MAX_POINTERS) -> "Message":
@@ -302,7 +306,7 @@ class Message:
         >>> Message.query("a.", RecordType.NS, id=7).to_wire().hex()
         '00070100000100000000000001610000020001'
         """
-        number = secrets.randbelow(_MOST + 1) if id is None else _checks.number("id", id, _MOST)
+        number = _random_id() if id is None else _checks.number("id", id, _MOST)
         question, flag = Question(name, record_type, record_class), bool(recursion_desired)
         wire, codes = question.name.wire, (question.question_type, question.question_class)
         try:
@@ -393,7 +397,7 @@ class Message:
         >>> request.reply().is_reply_to(request), request.is_reply_to(request)
         (True, False)
         """
-        own, asked, is_reply = self.wire, request.wire, c_bool()
+        own, asked, is_reply = self.wire, own_message("request", request).wire, c_bool()
         check(library.dnw_is_reply_to(asked, len(asked), own, len(own), byref(is_reply)))
         return is_reply.value
 
@@ -724,6 +728,20 @@ def _parts_of(table: Table) -> _Parts:
     return tuple(questions), tuple(answers), tuple(authorities), tuple(additionals)
 
 
+def _random_id() -> int:
+    # Its import takes longer than a query.
+    from secrets import randbelow
+
+    return randbelow(_MOST + 1)
+
+
+def own_message(what: str, message: object) -> Message:
+    """Returns an argument that has to be a message. One of a class that only says that it is `Message` is none."""
+    if type(message) is not _Read and type(message) is not _Made:
+        raise _checks.wrong_type(what, "a Message is", message)
+    return message
+
+
 def edns_of_reply(dnssec_ok: bool) -> Edns:
     """Returns the EDNS fields of a reply to a request with the same DO."""
     return _WITH_DO if dnssec_ok else _WITHOUT_DO
@@ -787,7 +805,7 @@ def _fields_of(flags: int) -> Dict[str, Any]:
     """Returns the fields in the second number of a header, as the library reads it."""
     octets, read, fault = _HEADER.pack(0, flags, 0, 0, 0, 0), Read(), MessageFault()
     check(library.dnw_message_read(octets, len(octets), 0, byref(read), byref(fault)))
-    fields: Dict[str, Any] = {name: getattr(read, name) for name in Header.__dataclass_fields__}
+    fields: Dict[str, Any] = {name: getattr(read, name) for name in Header._names}
     fields["op_code"], fields["response_code"] = OpCode.of(read.op_code), ResponseCode.of(read.response_code)
     return fields
 

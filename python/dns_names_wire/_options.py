@@ -1,9 +1,10 @@
 """EDNS options."""
 
 from ctypes import byref, c_char, c_size_t, c_uint8
-from typing import ClassVar, Dict, NamedTuple, Optional, Tuple, Type, Union
+from typing import ClassVar, Dict, Iterable, NamedTuple, Optional, Tuple, Type, Union
 
 from . import _checks
+from ._data import take_pairs
 from ._errors import check
 from ._library import OptionParts, library, taken
 from ._names import Name, whole_name, wire_of
@@ -272,6 +273,16 @@ class UnknownOption(OptionData):
 def _wire(what: str, name: object) -> bytes:
     """Returns the wire form of an argument that has to be a fully qualified name, or its text."""
     return wire_of(what, whole_name(what, name))[0]
+
+
+# What is taken for an option: what it says, or its code and its octets.
+OptionLike = Union[OptionData, Tuple[int, _checks.Bytes]]
+
+
+def options_of(what: str, options: Iterable[OptionLike]) -> Tuple[EdnsOption, ...]:
+    """Returns options that are given so. Raises `ValueError` if one has more than 65535 octets."""
+    pairs = [one.option() if isinstance(one, OptionData) else one for one in options]
+    return tuple([EdnsOption(*pair) for pair in take_pairs(what, pairs)])
 
 
 # The classes of options, by their codes.

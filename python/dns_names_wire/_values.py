@@ -48,6 +48,10 @@ class Value:
 
         def __init__(self, *values, **named):
             self.__dict__.update(zip(self._names, self._given(values, named)))
+            self.__post_init__()
+
+    def __post_init__(self) -> None:
+        """Makes the fields what they are kept as, in `__dict__`."""
 
     @classmethod
     def _given(cls, values: Sequence[Any], named: Mapping[str, Any]) -> Sequence[Any]:

@@ -1,15 +1,16 @@
 """Messages written item by item."""
 
 from ctypes import byref, c_char, c_size_t
-from typing import Iterable, Iterator, Optional, Tuple
+from typing import Iterable, Iterator, NoReturn, Optional, Tuple
 
 from . import _checks
 from ._data import put_pairs
 from ._errors import check
 from ._library import Writer, library
 from ._library import Edns as ReadEdns
-from ._messages import ANSWER_ITEM, Edns, Header, Message, Question, edns_of_reply
-from ._records import Record
+from ._messages import ANSWER_ITEM, Edns, Header, Message, Question, edns_of_reply, own_message
+from ._names import wire_of
+from ._records import Record, own_record
 from ._sets import RRset
 
 # The sections, by their numbers in dns_names_wire.h.
@@ -83,7 +84,7 @@ class MessageWriter:
             raise _checks.wrong_type("question", "a Question is", question)
         writer = cls.__new__(cls)
         writer._set(max_size, buffer)
-        wire, codes = question.name.wire, (question.question_type, question.question_class)
+        (wire, _), codes = wire_of("question", question.name), (question.question_type, question.question_class)
         size = 0 if payload is None else max(1, _checks.number("payload", payload, _MOST))
         number, room, most = _checks.number("id", id, _MOST), writer._room, writer._max_size
         check(library.dnw_writer_query(
@@ -114,7 +115,7 @@ class MessageWriter:
         writer._set(max_size, buffer)
         code = _checks.number("response_code", response_code, 4095)
         flags = bool(authoritative) << 10 | bool(recursion_available) << 7 | bool(authentic_data) << 5
-        wire, asked = request.wire, ReadEdns()
+        wire, asked = own_message("request", request).wire, ReadEdns()
         room, most = writer._room, writer._max_size
         check(library.dnw_writer_reply(
             room, len(room), most, wire, len(wire), flags, code, byref(writer._state), byref(asked)
@@ -122,6 +123,9 @@ class MessageWriter:
         writer._owed_edns = edns_of_reply(asked.dnssec_ok) if asked.is_present else None
         writer._code, writer._takes_records = asked.response_code, asked.takes_records
         return writer
+
+    def __reduce__(self) -> NoReturn:
+        raise TypeError("a MessageWriter is not copied: it writes into one buffer")
 
     @property
     def size(self) -> int:
@@ -145,7 +149,7 @@ class MessageWriter:
         """Writes a question."""
         if not isinstance(question, Question):
             raise _checks.wrong_type("question", "a Question is", question)
-        wire, codes = question.name.wire, (question.question_type, question.question_class)
+        (wire, _), codes = wire_of("question", question.name), (question.question_type, question.question_class)
         check(library.dnw_writer_question(self._room, len(self._room), wire, len(wire), *codes, byref(self._state)))
 
     def answer(self, record: Record) -> None:
@@ -174,16 +178,14 @@ class MessageWriter:
         self._set_of(ADDITIONAL, records, is_required)
 
     def _record(self, section: int, record: Record) -> None:
-        if not isinstance(record, Record):
-            raise _checks.wrong_type("record", "a Record is", record)
-        owner, data = record.owner.wire, record._whole_data()
+        owner, data = own_record("record", record).owner.wire, record._whole_data()
         codes = record.record_type, record.record_class, record.ttl
         check(library.dnw_writer_record(
             self._room, len(self._room), section, owner, len(owner), *codes, data, len(data), byref(self._state)
         ))  # fmt: skip
 
     def _set_of(self, section: int, records: Iterable[Record], is_required: bool) -> None:
-        found = records if isinstance(records, RRset) else RRset(records)
+        found = records if type(records) is RRset else RRset(records)
         owner, ttl = found.owner.wire, found.ttl
         octets = b"".join([part for record in found for part in _counted(record._whole_data())])
         check(library.dnw_writer_set(
@@ -211,11 +213,9 @@ class MessageWriter:
     def last(self, record: Record, *, held: int = 0) -> None:
         """Writes a record after which no item may follow, as TSIG (RFC 8945, section 5.1), and gives back octets that are
         held back for it."""
-        if not isinstance(record, Record):
-            raise _checks.wrong_type("record", "a Record is", record)
+        owner, data = own_record("record", record).owner.wire, record._whole_data()
         if self._owed_edns is not None:
             self.edns()
-        owner, data = record.owner.wire, record._whole_data()
         codes = record.record_type, record.record_class, record.ttl
         check(library.dnw_writer_last(
             self._room, len(self._room), _checks.number("held", held, _MOST), owner, len(owner), *codes, data, len(data),

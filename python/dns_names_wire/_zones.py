@@ -15,7 +15,7 @@ from ._library import (
     NO_ROOM, PrintedRecord, SentenceText, Zone, ZoneEntry, ZoneFinding as Finding, by_address, library, taken,
 )
 from ._names import Name, whole_name
-from ._records import Record, record_of
+from ._records import Record, own_record, record_of
 
 # The kinds of entries, by their numbers in `dns_names_wire.h`.
 _END, _MORE, _NOTHING, _RECORD, _INCLUDE, _ERROR = range(6)
@@ -280,9 +280,7 @@ def _lines(records: Iterable[Record], origin: bytes, ttl: Optional[int], zone: Z
         check(library.dnw_zone_put_ttl(ttl, byref(zone), room, len(room), byref(length)))
         yield taken(room, length.value).decode("ascii")
     for record in records:
-        if not isinstance(record, Record):
-            raise _checks.wrong_type("records", "a Record is", record)
-        message, start = record._message, record._start
+        message, start = own_record("records", record)._message, record._start
         arguments: Tuple[Any, ...] = message, len(message), start, byref(zone)
         number = library.dnw_zone_put_record(*arguments, room, len(room), byref(printed))
         while number == NO_ROOM:
@@ -338,10 +336,7 @@ def check_zone(records: Iterable[Record], zone: NameLike) -> List[ZoneFinding]:
     ...     print(finding)
     error: the name of a server has no address in the zone: a. 60 IN NS ns.a.
     """
-    wire, given = whole_name("zone", zone).wire, list(records)
-    for record in given:
-        if not isinstance(record, Record):
-            raise _checks.wrong_type("records", "a Record is", record)
+    wire, given = whole_name("zone", zone).wire, [own_record("records", record) for record in records]
     given.sort(key=lambda record: record.owner.sort_key())
     whole = b"".join(record.to_wire() for record in given)
     most, count = 2 + 10 * len(given), c_size_t()

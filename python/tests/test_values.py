@@ -104,6 +104,15 @@ class Texts(unittest.TestCase):
                 make()
 
 
+class Options(unittest.TestCase):
+    def test_options_may_be_what_they_say(self) -> None:
+        own = dnw.Edns(options=[dnw.Cookie(b"12345678"), (3, b""), dnw.EdnsOption(12, b"\0")])
+        self.assertEqual(own.options, ((10, b"12345678"), (3, b""), (12, b"\0")))
+        self.assertEqual(dnw.Message.from_wire(dnw.Message.build(edns=own).to_wire()).edns, own)
+        self.assertRaises(dnw.BadData, dnw.Edns, options=[dnw.Cookie(b"12345678", b"1234567")])
+        self.assertRaises(TypeError, dnw.Edns, options=[7])
+
+
 class Keys(unittest.TestCase):
     def test_key_tags_and_digests(self) -> None:
         record = Record.from_text(KEY)
@@ -137,6 +146,11 @@ class Copies(unittest.TestCase):
             for copied in (copy.copy(value), copy.deepcopy(value), *(pickle.loads(pickle.dumps(value, way)) for way in range(2, 6))):
                 self.assertIs(type(copied), type(value))
                 self.assertEqual((copied, repr(copied), str(copied), hash(copied)), (value, repr(value), str(value), hash(value)))
+
+    def test_a_writer_is_not_copied(self) -> None:
+        for make in (copy.copy, copy.deepcopy, pickle.dumps):
+            with self.assertRaisesRegex(TypeError, "a MessageWriter is not copied"):
+                make(dnw.MessageWriter())
 
     def test_copies_of_errors_say_the_same(self) -> None:
         for text in ("a..b", "\\256", "b\u00fccher."):
