@@ -362,6 +362,11 @@ static void begins_replies(void)
     EXPECT(reply(BYTES(ASKS("\001\000", "\000\001\000\000\000\000\000\001") QUESTION SAYS("\001", "\000")), ROOM, 0, &edns) == DNW_DONE);
     expect_message(BYTES(ASKS("\201\000", "\000\001\000\000\000\000\000\000") QUESTION));
     EXPECT(edns.is_present && !edns.dnssec_ok && edns.response_code == 16);
+    /* no message is shorter than its header */
+    for (size_t most = 0; most < DNW_HEADER_SIZE; most++)
+        EXPECT(dnw_writer_reply(message, ROOM, most, BYTES(ASKS("\001\000", "\000\001\000\000\000\000\000\000") QUESTION), 0, 0, &writer, &edns)
+               == DNW_MESSAGE_TOO_LONG);
+    EXPECT(edns.is_present && edns.response_code == 16);
     EXPECT(address(ROOM, DNW_SECTION_ANSWERS, BYTES(ROOT)) == DNW_BAD_ITEM && address(ROOM, DNW_SECTION_AUTHORITIES, BYTES(ROOT)) == DNW_BAD_ITEM);
     EXPECT(add_opt(0) == DNW_DONE && writer.len == 33 + 11);
     /* not complete, two questions, two OPT records */

@@ -380,6 +380,18 @@ class Lists(unittest.TestCase):
             self.assertTrue(Message.build(bare).is_reply_to(Message.build(Header(7, op_code=op_code))))
         self.assertTrue(Message.build(Header(7), [QUESTION, QUESTION]).reply().is_reply_to(Message.build(Header(7), [QUESTION])))
 
+    def test_a_maximum_below_the_header_is_too_small(self) -> None:
+        request = make_query("a.", "A", id=7)
+        for size in range(12):
+            for begin in (
+                lambda: MessageWriter(HEADER, size),
+                lambda: MessageWriter.reply(request, max_size=size),
+                lambda: MessageWriter.query(QUESTION, size, id=7),
+                lambda: Message.build(HEADER).to_wire(size),
+                lambda: Message.from_wire(request.to_wire()).to_wire(size),
+            ):
+                self.assertRaises(dnw.MessageTooLong, begin)
+
     def test_the_last_record_is_as_long_as_what_is_held(self) -> None:
         key = Record(QUESTION.name, 0, KEY.data, RecordClass.ANY)
         for block in [1, 32, 128, 468]:

@@ -468,6 +468,66 @@ fn a_reply_has_edns_only_if_the_request_has() {
     assert!(read.is_reply_to(&plain));
 }
 
+/// A reply may lack the question if none was asked (RFC 7873, section 5.4), if it is to an UPDATE (RFC 2136, section 3.8), or if
+/// its code says that the request was not read or taken.
+#[test]
+fn replies_may_lack_the_question() {
+    let header = |is_response, op_code: u8, code: u16| {
+        let mut header = Header::default();
+        (header.id, header.is_response) = (7, is_response);
+        (header.op_code, header.response_code) = (op_code.into(), code.into());
+        header
+    };
+    let written = |header: Header, asked: Option<&str>| {
+        let mut message = MessageBuilder::new(header);
+        if let Some(owner) = asked {
+            message.question(&name(owner), RecordType::SOA, Class::IN);
+        }
+        message.finish(512).unwrap()
+    };
+    let rows = [
+        (0, 0, false),
+        (0, 1, true),
+        (0, 2, true),
+        (0, 3, false),
+        (0, 4, true),
+        (0, 5, true),
+        (0, 9, false),
+        (5, 0, true),
+    ];
+    for (op_code, code, is_reply) in rows {
+        let (asked, none_asked) =
+            (written(header(false, op_code, 0), Some("a.")), written(header(false, op_code, 0), None));
+        let request = Message::read(&asked).unwrap();
+        for (owner, wanted) in [(None, is_reply), (Some("a."), true), (Some("b."), false)] {
+            let reply = written(header(true, op_code, code), owner);
+            assert_eq!(Message::read(&reply).unwrap().is_reply_to(&request), wanted, "{op_code} {code} {owner:?}");
+        }
+        let bare = written(header(true, op_code, code), None);
+        assert!(Message::read(&bare).unwrap().is_reply_to(&Message::read(&none_asked).unwrap()));
+    }
+}
+
+/// No message is shorter than its header, whoever begins it.
+#[test]
+fn a_maximum_below_the_header_is_too_small() {
+    let request = MessageBuilder::query(7, &name("a."), RecordType::A).finish(512).unwrap();
+    for size in 0..12 {
+        let mut room = [0; 512];
+        let header = Header::default();
+        let begun = [
+            MessageWriter::new(&mut room, size, &header).map(drop),
+            MessageWriter::reply_to(&mut room, size, &request, &header).map(drop),
+            MessageWriter::query(&mut room, size, 7, &name("a."), RecordType::A, None).map(drop),
+        ];
+        for result in begun {
+            assert_eq!(result.unwrap_err().kind(), ErrorKind::MessageTooLong);
+        }
+        let short = MessageBuilder::new(header).finish(size as u16);
+        assert_eq!(short.unwrap_err().kind(), ErrorKind::MessageTooLong);
+    }
+}
+
 /// A transfer is split into messages that have all records in their order.
 #[test]
 fn a_transfer_is_split() {
