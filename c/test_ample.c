@@ -207,21 +207,21 @@ static void packs(size_t size)
     put_head(DNW_TYPE_NULL, size);
     fill('x', size);
     bool fits = input_len <= LONGEST;
-    EXPECT(dnw_message_pack(input, input_len, LONGEST, output, sizeof output, &packed) == DNW_DONE);
+    EXPECT(dnw_message_pack(input, input_len, LONGEST, 0, output, sizeof output, &packed) == DNW_DONE);
     EXPECT(packed.truncated == !fits && packed.len == (fits ? input_len : HEADER));
     input_len = 0;
     put_header(0, size);
     for (size_t n = 0; n < size; n++)
         put_numbered(n);
     fits = input_len <= LONGEST;
-    EXPECT(dnw_message_pack(input, input_len, LONGEST, output, sizeof output, &packed) == DNW_DONE);
+    EXPECT(dnw_message_pack(input, input_len, LONGEST, 0, output, sizeof output, &packed) == DNW_DONE);
     EXPECT(packed.truncated == !fits && (!fits || packed.len == input_len));
     input_len = 0;
     put_header(size, 0);
     for (size_t n = 0; n < size; n++)
         put("\000\000\001\000\001", 5);
     fits = input_len <= LONGEST;
-    EXPECT(dnw_message_pack(input, input_len, LONGEST, output, sizeof output, &packed) == (fits ? DNW_DONE : DNW_MESSAGE_TOO_LONG));
+    EXPECT(dnw_message_pack(input, input_len, LONGEST, 0, output, sizeof output, &packed) == (fits ? DNW_DONE : DNW_MESSAGE_TOO_LONG));
     EXPECT(!fits || packed.len == input_len);
 }
 

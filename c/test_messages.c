@@ -341,7 +341,7 @@ static uint32_t pack(const uint8_t *octets, size_t len, uint16_t most, size_t si
 {
     memset(copy, '?', sizeof copy);
     *packed = (struct dnw_packed){7, true};
-    uint32_t answer = dnw_message_pack(octets, len, most, copy, size, packed);
+    uint32_t answer = dnw_message_pack(octets, len, most, 0, copy, size, packed);
     if (answer != DNW_DONE)
         EXPECT(packed->len == 7 && packed->truncated);
     else

@@ -167,7 +167,7 @@ static uint32_t packs(size_t count, bool of_owner, bool of_data)
 {
     struct dnw_packed packed = {7, false};
     put_servers(count, begin_response(count + 1, 511), of_owner, of_data);
-    uint32_t answer = dnw_message_pack(input, input_len, 65535, output, ROOM, &packed);
+    uint32_t answer = dnw_message_pack(input, input_len, 65535, 0, output, ROOM, &packed);
     EXPECT(answer == DNW_DONE || packed.len == 7);
     return answer;
 }
@@ -213,7 +213,7 @@ static void refuses_a_megabyte_at_once(void)
     EXPECT(dnw_zone_digest(BYTES("\000"), input, input_len, 1, output, ROOM, &len) == DNW_TOO_MANY_POINTERS);
     put_servers(3808, begin_response(3809, 8000), false, true);
     for (int n = 0; n < 100; n++)
-        EXPECT(dnw_message_pack(input, input_len, 65535, output, ROOM, &packed) == DNW_TOO_MANY_POINTERS);
+        EXPECT(dnw_message_pack(input, input_len, 65535, 0, output, ROOM, &packed) == DNW_TOO_MANY_POINTERS);
     EXPECT(seconds_since(start) < 5);
 }
 

@@ -138,6 +138,7 @@ static void parses_what_is_printed(void)
     EXPECT(gives(LINE(". 16809984 CLASS1232 OPT \\# 6 000A0002ABCD"), OCTETS(OPT)));
     EXPECT(fails(LINE(". 0 IN MX \\# 1 05")) == DNW_BAD_DATA);
     EXPECT(gives(LINE("\\.. 10 CH TXT \"a\\\"b\" \"c d\""), OCTETS(TXT)));
+    EXPECT(gives(LINE("\\.. 10 CH TXT ( \"a\\\"b\" ( \"c d\" ) )"), OCTETS(TXT)));
 }
 
 static void parses_records(void)
@@ -193,7 +194,6 @@ static void refuses_records(void)
     EXPECT(fails(LINE("a. 300 IN A 192.0.2.1\377")) == DNW_BAD_DATA);
     EXPECT(fails(LINE("a. 300 IN TXT ( b\n c")) == DNW_UNCLOSED_LIST);
     EXPECT(fails(LINE("a. 300 IN TXT b )")) == DNW_ILLEGAL_CHARACTER);
-    EXPECT(fails(LINE("a. 300 IN TXT ( b ( c ) )")) == DNW_ILLEGAL_CHARACTER);
     EXPECT(fails(LINE("a. 300 IN TXT \"b")) == DNW_UNCLOSED_QUOTE);
     EXPECT(fails(LINE("a. 300 IN TXT b\\")) == DNW_TEXT_CUT);
     EXPECT(fails(LINE("a. 300 IN TXT b\nb. 300 IN TXT c")) == DNW_BAD_DATA);
@@ -218,12 +218,26 @@ static void parses_data(void)
     EXPECT(gives(DATA(DNW_TYPE_DS, "1 RSASHA256 2 00"), OCTETS("\000\001\010\002\000")));
     EXPECT(gives(DATA(DNW_TYPE_CERT, "PKIX 1 ed25519 AQ=="), OCTETS("\000\001\000\001\017\001")));
     EXPECT(gives(DATA(DNW_TYPE_TXT, "a\"b c\"d"), OCTETS("\001a\003b c\001d")));
+    EXPECT(gives(DATA(DNW_TYPE_TXT, "\"a\" ; comment"), OCTETS("\001a")));
+    EXPECT(gives(DATA(DNW_TYPE_DS, "\\# 4 00010802"), OCTETS("\000\001\010\002")));
+    EXPECT(gives(DATA(DNW_TYPE_CDS, "0 0 0 00"), OCTETS("\000\000\000\000\000")));
+    EXPECT(gives(DATA(DNW_TYPE_IPSECKEY, "10 0 2 ."), OCTETS("\012\000\002")));
+    EXPECT(gives(DATA(DNW_TYPE_RRSIG, "A 5 0 0 21060207062816 0 1 . AA=="),
+                 OCTETS("\000\001\005\000\000\000\000\000\000\000\000\000\000\000\000\000\000\001\000\000")));
+    EXPECT(gives(DATA(DNW_TYPE_HTTPS, "1 . ohttp dohpath=/q{?dns}"),
+                 OCTETS("\000\001\000\000\007\000\010/q{?dns}\000\010\000\000")));
+    EXPECT(gives(DATA(DNW_TYPE_MX, "1 a.;b"), OCTETS("\000\001\001a\000")));
+    EXPECT(gives(DATA(DNW_TYPE_MX, "( 1 ; (\n a. )\n"), OCTETS("\000\001\001a\000")));
 }
 
 static void refuses_data(void)
 {
     EXPECT(fails(DATA(DNW_TYPE_A, "")) == DNW_BAD_DATA);
     EXPECT(fails(DATA(DNW_TYPE_A, "192.0.2")) == DNW_BAD_DATA);
+    EXPECT(fails(DATA(DNW_TYPE_DS, "1 8 2")) == DNW_BAD_DATA);
+    EXPECT(fails(DATA(DNW_TYPE_DNSKEY, "256 3 5")) == DNW_BAD_DATA);
+    EXPECT(fails(DATA(DNW_TYPE_OPENPGPKEY, "")) == DNW_BAD_DATA);
+    EXPECT(fails(DATA(DNW_TYPE_A, "\\# 4 010 20304")) == DNW_BAD_DATA);
     EXPECT(fails(DATA(DNW_TYPE_MX, "65536 .")) == DNW_BAD_DATA);
     EXPECT(fails(DATA(DNW_TYPE_CNAME, "a")) == DNW_BAD_DATA);
     EXPECT(fails(DATA(65280, "00")) == DNW_BAD_DATA);
@@ -233,13 +247,13 @@ static void refuses_data(void)
     EXPECT(fails(DATA(DNW_TYPE_A, "\\# 3 010203")) == DNW_BAD_DATA);
     EXPECT(fails(DATA(DNW_TYPE_MX, "\\# 1 00")) == DNW_BAD_DATA);
     EXPECT(fails(DATA(DNW_TYPE_A, "\\# 0")) == DNW_BAD_DATA);
-    EXPECT(fails(DATA(DNW_TYPE_TXT, "\303(")) == DNW_BAD_DATA);
+    EXPECT(fails(DATA(DNW_TYPE_TXT, "\303(")) == DNW_UNCLOSED_LIST);
     EXPECT(fails(DATA_BELOW(DNW_TYPE_A, "192.0.2.1", "\100")) == DNW_RESERVED_OCTET);
     EXPECT(fails(DATA_BELOW(DNW_TYPE_A, "\377", "\000.")) == DNW_BYTES_LEFT);
-    EXPECT(fails(DATA(DNW_TYPE_MX, "1 (")) == DNW_BAD_DATA);
-    EXPECT(fails(DATA(DNW_TYPE_MX, "1 a.;b")) == DNW_BAD_DATA);
+    EXPECT(fails(DATA(DNW_TYPE_MX, "1 (")) == DNW_UNCLOSED_LIST);
+    EXPECT(fails(DATA(DNW_TYPE_MX, "1 a.)")) == DNW_ILLEGAL_CHARACTER);
+    EXPECT(fails(DATA(DNW_TYPE_MX, "1 a.\n2")) == DNW_BAD_DATA);
     EXPECT(fails(DATA(DNW_TYPE_NS, "\"a.\"")) == DNW_BAD_DATA);
-    EXPECT(fails(DATA(DNW_TYPE_TXT, "\"a\" ; comment")) == DNW_BAD_DATA);
     EXPECT(fails(DATA(DNW_TYPE_SOA, ". . 1h 2 3 4 5")) == DNW_BAD_DATA);
     EXPECT(fails(DATA(DNW_TYPE_SOA, ". . 1 2 3 4 1d1")) == DNW_BAD_DATA);
 }
@@ -259,14 +273,13 @@ static void finds_faults(void)
     EXPECT(goes_wrong(LINE("a. 300 IN A 192.0.2.1\377"), 12, 10, 0, DNW_REASON_IPV4));
     EXPECT(goes_wrong(LINE("a. 300 IN A \\# 3 010203"), 17, 6, 1, DNW_REASON_DATA));
     EXPECT(goes_wrong(LINE("a. 300 IN A \\# 4 010203"), 17, 6, 1, DNW_REASON_OCTETS));
-    EXPECT(goes_wrong(LINE("a. 300 IN TXT ( b\n c"), 20, 0, 0, DNW_REASON_UNCLOSED_PARENTHESIS));
+    EXPECT(goes_wrong(LINE("a. 300 IN TXT ( b\n c"), 14, 0, 0, DNW_REASON_UNCLOSED_PARENTHESIS));
     EXPECT(goes_wrong(LINE("a. 300 IN TXT b )"), 16, 0, 0, DNW_REASON_UNOPENED_PARENTHESIS));
-    EXPECT(goes_wrong(LINE("a. 300 IN TXT ( b ( c ) )"), 18, 0, 0, DNW_REASON_NESTED_PARENTHESIS));
-    EXPECT(goes_wrong(LINE("a. 300 IN TXT \"b"), 16, 0, 0, DNW_REASON_UNCLOSED_QUOTE));
+    EXPECT(goes_wrong(LINE("a. 300 IN TXT \"b"), 14, 2, 0, DNW_REASON_UNCLOSED_QUOTE));
     EXPECT(goes_wrong(LINE("a. 300 IN TXT b\\"), 16, 0, 0, DNW_REASON_UNFINISHED_ESCAPE));
     EXPECT(goes_wrong(LINE("a. 300 IN TXT b\nb. 300 IN TXT c"), 15, 0, 0, DNW_REASON_MORE_ENTRIES));
     EXPECT(goes_wrong(DATA(DNW_TYPE_SOA, ". . 1 2 3 4 1d1"), 12, 3, 6, DNW_REASON_PERIOD));
-    EXPECT(goes_wrong(DATA(DNW_TYPE_MX, "1 ("), 2, 0, 1, DNW_REASON_NAME));
+    EXPECT(goes_wrong(DATA(DNW_TYPE_MX, "1 ("), 3, 0, 0, DNW_REASON_UNCLOSED_PARENTHESIS));
     EXPECT(goes_wrong(DATA_BELOW(DNW_TYPE_MX, "1 b c", COM), 4, 1, 2, DNW_REASON_END));
     EXPECT(goes_wrong(DATA(65280, "00"), 0, 2, 0, DNW_REASON_GENERIC));
     EXPECT(goes_wrong(DATA(DNW_TYPE_WKS, "10.0.0.1 xyz 25"), 9, 3, 1, DNW_REASON_PROTOCOL));
@@ -286,14 +299,14 @@ static void prints_faults(void)
     EXPECT(says((struct dnw_text_fault){0, 5, 3, DNW_REASON_NO_OWNER}, "at offset 0: wanted an owner"));
     EXPECT(says((struct dnw_text_fault){9, 0, 0, DNW_REASON_WORDS_LEFT}, "at offset 9: more words are there"));
     EXPECT(says((struct dnw_text_fault){1, 1, 1, DNW_REASON_NONE}, ""));
-    EXPECT(says((struct dnw_text_fault){1, 1, 1, DNW_REASON_WORDS_LEFT + 1}, ""));
+    EXPECT(says((struct dnw_text_fault){1, 1, 1, DNW_REASON_TIME_TOO_LARGE + 1}, ""));
     EXPECT(says((struct dnw_text_fault){1, 1, 1, DNW_REASON_NAME - 1}, ""));
     EXPECT(says((struct dnw_text_fault){1, 1, 1, DNW_REASON_MANDATORY + 1}, ""));
     for (uint32_t reason = 0; reason <= DNW_REASON_MANDATORY; reason++) {
         size_t len = 0;
         struct dnw_text_fault fault = {SIZE_MAX, 0, SIZE_MAX, reason};
         EXPECT(dnw_text_fault_print(&fault, text, DNW_SENTENCE_SIZE, &len) == DNW_DONE && len <= DNW_SENTENCE_SIZE);
-        bool is_none = reason == 0 || (reason > DNW_REASON_WORDS_LEFT && reason < DNW_REASON_NAME);
+        bool is_none = reason == 0 || (reason > DNW_REASON_TIME_TOO_LARGE && reason < DNW_REASON_NAME);
         EXPECT((len == 0) == is_none);
     }
 }

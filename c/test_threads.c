@@ -93,7 +93,7 @@ static void call_messages(struct results *results)
     struct dnw_writer writer;
     size_t len;
     KEEP(dnw_message_table(BYTES(response), 99, rows, 32, buffer, sizeof buffer, &table), buffer, table.names_len);
-    KEEP(dnw_message_pack(BYTES(response), 512, buffer, sizeof buffer, &packed), buffer, packed.len);
+    KEEP(dnw_message_pack(BYTES(response), 512, 0, buffer, sizeof buffer, &packed), buffer, packed.len);
     KEEP(dnw_edns_read(BYTES(response), 99, &edns), &edns.max_payload, sizeof edns.max_payload);
     KEEP(dnw_option_print(15, BYTES("\000\006bad"), buffer, sizeof buffer, &len), buffer, len);
     struct dnw_option option;

@@ -544,7 +544,7 @@ static uint32_t list(const uint8_t *items, size_t items_len, size_t max_size, si
 {
     memset(message, 0x5A, ROOM);
     result = (struct dnw_packed){7, true};
-    uint32_t answer = dnw_message_write(items, items_len, max_size, 0x1234, 0x85B3, 0, message, size, &result);
+    uint32_t answer = dnw_message_write(items, items_len, max_size, 0x1234, 0x85B5, 3, false, 0, message, size, &result);
     if (answer != DNW_DONE)
         EXPECT(result.len == 7 && result.truncated);
     return answer;
@@ -561,8 +561,11 @@ static bool lists(const uint8_t *items, size_t items_len, size_t max_size, const
 #define RR(octet, owner) octet owner ADDRESS
 #define NS_RR(octet) octet "\007example\003com\000" FIELDS("\002") "\000\021" WEB
 #define PUT_NS "\300\020" FIELDS("\002") "\000\006\003web\300\020"
-#define OPT_RR "\103\000\000\051\004\320\000\000\000\000\000\000"
-#define TSIG_RR "\103\003key\000\377\000\000\377\000\000\000\000\000\002\001\002"
+#define PUT_OPT "\000\000\051\004\320\000\000\000\000\000\000"
+#define OPT_RR "\003" PUT_OPT
+#define TSIG_FIELDS "\000\372\000\377\000\000\000\000\000\021" "\0\0\0\0\0\0\0\0\0\0\0\0\0\0\0\0\0"
+#define KEY_DATA "\003key\000" TSIG_FIELDS
+#define TSIG_RR "\003" KEY_DATA
 #define PUT_A "\300\014" ADDRESS
 
 static void writes_lists(void)
@@ -571,7 +574,7 @@ static void writes_lists(void)
     EXPECT(lists(BYTES(ASKED), ROOM, WANTED(HEADER("\000\001\000\000\000\000\000\000") QUESTION), false));
     EXPECT(lists(BYTES(ASKED RR("\001", WWW) RR("\001", WWW) NS_RR("\202") RR("\203", WEB) OPT_RR TSIG_RR), ROOM,
                  WANTED(HEADER("\000\001\000\002\000\001\000\003") QUESTION PUT_A PUT_A PUT_NS "\300\115" ADDRESS
-                        "\000\000\051\004\320\000\000\000\000\000\000" "\003key\000\377\000\000\377\000\000\000\000\000\002\001\002"),
+                        PUT_OPT KEY_DATA),
                  false));
     /* names with pointers into the list */
     EXPECT(lists(BYTES(ASKED "\001\300\001" ADDRESS), ROOM, WANTED(HEADER("\000\001\000\001\000\000\000\000") QUESTION PUT_A), false));
@@ -581,7 +584,6 @@ static void writes_lists(void)
 static void leaves_sets_out(void)
 {
 #define TWO BYTES(ASKED RR("\001", WWW) RR("\001", WWW) RR("\001", WEB) NS_RR("\202") RR("\203", WEB) OPT_RR)
-#define PUT_OPT "\000\000\051\004\320\000\000\000\000\000\000"
     /* 33, two addresses of 16, one of 20, NS 18, glue 16, OPT 11 */
     EXPECT(lists(TWO, 33 + 32 + 20 + 14 + 16 + 11, WANTED(HEADER("\000\001\000\003\000\001\000\002") QUESTION PUT_A PUT_A "\003web\300\020" ADDRESS
                       "\300\020" FIELDS("\002") "\000\002\300\101" "\300\101" ADDRESS PUT_OPT), false));
@@ -746,7 +748,7 @@ static void keeps_no_half_of_a_set(void)
         memcpy(items + len + 5, ADDRESS, sizeof ADDRESS - 1);
     }
     for (size_t last = 0; last < 2; last++) {
-        EXPECT(dnw_message_write(items, len - (1 - last) * (5 + sizeof ADDRESS - 1), ROOM * 4, 1, 0x8000, 0, room, sizeof room, &result) == DNW_DONE);
+        EXPECT(dnw_message_write(items, len - (1 - last) * (5 + sizeof ADDRESS - 1), ROOM * 4, 1, 0x8000, 0, false, 0, room, sizeof room, &result) == DNW_DONE);
         EXPECT(room[11] == 64 && result.truncated == (last == 1));
     }
 }
@@ -763,7 +765,7 @@ static void takes_sets_back(void)
     memcpy(whole, message, len);
     for (size_t most = 49; most <= len; most++) {
         struct dnw_packed packed;
-        EXPECT(dnw_message_pack(whole, len, (uint16_t)most, again, sizeof again, &packed) == DNW_DONE);
+        EXPECT(dnw_message_pack(whole, len, (uint16_t)most, 0, again, sizeof again, &packed) == DNW_DONE);
         EXPECT(list(BYTES(TAKEN), most, ROOM) == DNW_DONE);
         EXPECT(packed.len == result.len && packed.truncated == result.truncated && memcmp(again, message, packed.len) == 0);
     }
@@ -780,11 +782,11 @@ static void never_cuts_requests(void)
                 uint8_t items[] = ASKED RR("\001", WWW);
                 items[sizeof ASKED - 1] = (uint8_t)octet;
                 struct dnw_packed found = {7, true};
-                EXPECT(dnw_message_write(items, sizeof items - 1, most, 1, flags[i], 0, message, ROOM, &found) == DNW_MESSAGE_TOO_LONG);
+                EXPECT(dnw_message_write(items, sizeof items - 1, most, 1, flags[i], 0, false, 0, message, ROOM, &found) == DNW_MESSAGE_TOO_LONG);
                 EXPECT(found.len == 7 && found.truncated);
             }
         if (flags[i] & 0x7800) {
-            EXPECT(dnw_message_write(BYTES(ASKED RR("\003", ROOT)), 33, 1, flags[i] | 0x8000, 0, message, ROOM, &result) == DNW_DONE);
+            EXPECT(dnw_message_write(BYTES(ASKED RR("\003", ROOT)), 33, 1, flags[i] | 0x8000, 0, false, 0, message, ROOM, &result) == DNW_DONE);
             EXPECT(result.len == 33 && result.truncated);
         }
     }
@@ -800,26 +802,83 @@ static void never_cuts_requests(void)
 /* A list with an OPT record is padded to a multiple of a block, with the signature after it; and not without room. */
 static void pads_lists(void)
 {
-#define DNW_PADS(items, block, most) dnw_message_write(BYTES(items), most, 1, 0x8000, block, message, ROOM, &result)
-#define KEYED ASKED_A OPT_RR "\103" WWW "\377\000\000\377\000\000\000\000\000\002\001\002"
+#define DNW_PADS(items, block, most) dnw_message_write(BYTES(items), most, 1, 0x8000, 0, false, block, message, ROOM, &result)
+#define KEYED ASKED_A OPT_RR "\003" WWW TSIG_FIELDS
     static const uint16_t blocks[] = {0, 1, 32, 128, 468, 512, 600};
     for (size_t i = 0; i < sizeof blocks / sizeof *blocks; i++) {
         size_t block = blocks[i] > 512 ? 512 : blocks[i];
         EXPECT(DNW_PADS(ASKED_A OPT_RR, blocks[i], ROOM) == DNW_DONE && !result.truncated);
         EXPECT(block == 0 ? result.len == 49 + 11 : result.len % block == 0 && result.len >= 49 + 15);
         EXPECT(DNW_PADS(KEYED, blocks[i], ROOM) == DNW_DONE && !result.truncated);
-        EXPECT(block == 0 ? result.len == 49 + 11 + 29 : result.len % block == 0 && result.len >= 49 + 15 + 29);
-        EXPECT(memcmp(message + result.len - 29, WWW "\377\000", 19) == 0);
+        EXPECT(block == 0 ? result.len == 49 + 11 + 44 : result.len % block == 0 && result.len >= 49 + 15 + 44);
+        EXPECT(memcmp(message + result.len - 44, WWW "\000\372", 19) == 0);
         /* no option without room for it, and none without OPT */
-        EXPECT(DNW_PADS(KEYED, blocks[i], 49 + 11 + 29) == DNW_DONE && result.len == 49 + 11 + 29 && !result.truncated);
+        EXPECT(DNW_PADS(KEYED, blocks[i], 49 + 11 + 44) == DNW_DONE && result.len == 49 + 11 + 44 && !result.truncated);
         EXPECT(DNW_PADS(ASKED_A, blocks[i], ROOM) == DNW_DONE && result.len == 49);
     }
     EXPECT(DNW_PADS(ASKED_A OPT_RR, 64, ROOM) == DNW_DONE && result.len == 64);
     EXPECT(memcmp(message + 49, "\000\000\051\004\320\000\000\000\000\000\004\000\014\000\000", 15) == 0);
-    /* the bits of the OPT record are kept, and options that are cut fail */
-#define SAYING "\103\000\000\051\002\000\001\002\200\000\000\000"
-    EXPECT(DNW_PADS(SAYING, 1, ROOM) == DNW_DONE && memcmp(message + 12, "\000\000\051\002\000\001\002\200\000\000\004\000\014\000\000", 15) == 0);
-    EXPECT(DNW_PADS("\103\000\000\051\002\000\000\000\000\000\000\001\007", 1, ROOM) == DNW_CUT_OPTION);
+    /* the bits of the OPT record are kept, but for those of the response code, and options that are cut fail */
+#define SAYING "\003\000\000\051\002\000\001\002\200\000\000\000"
+    EXPECT(DNW_PADS(SAYING, 1, ROOM) == DNW_DONE && memcmp(message + 12, "\000\000\051\002\000\000\002\200\000\000\004\000\014\000\000", 15) == 0);
+    EXPECT(DNW_PADS("\003\000\000\051\002\000\000\000\000\000\000\001\007", 1, ROOM) == DNW_CUT_OPTION);
+}
+
+/* OPT and then a signature come last, wherever they stand among the additional records, and there is one of each at most (RFC 6891,
+   section 6.1.1; RFC 8945, section 5.1; RFC 2931, section 3). A SIG that covers a type is a record like others. */
+static void puts_signatures_last(void)
+{
+#define SIG_RR(type) "\003" SIG_PUT(type)
+#define SIG_PUT(type) "\000\000\030\000\377\000\000\000\000\000\024" type "\010\000\000\000\000\000\000\000\000\002\000\000\000\001\000\007\000s"
+    static const struct {
+        const uint8_t *items;
+        size_t len;
+    } same[] = {
+        {BYTES(ASKED RR("\003", WEB) OPT_RR TSIG_RR)},
+        {BYTES(ASKED TSIG_RR OPT_RR RR("\003", WEB))},
+        {BYTES(ASKED OPT_RR RR("\003", WEB) TSIG_RR)},
+        {BYTES(ASKED "\043" KEY_DATA RR("\003", WEB) "\203" PUT_OPT)},
+    };
+    uint8_t first[ROOM];
+    size_t len = 0;
+    for (size_t i = 0; i < sizeof same / sizeof *same; i++)
+        for (size_t most = 33 + 11 + 32; most < ROOM; most++) {
+            EXPECT(list(same[i].items, same[i].len, most, ROOM) == DNW_DONE && result.len <= most);
+            if (most == ROOM - 1 && i == 0)
+                memcpy(first, message, len = result.len);
+        }
+    for (size_t i = 0; i < sizeof same / sizeof *same; i++) {
+        EXPECT(list(same[i].items, same[i].len, ROOM, ROOM) == DNW_DONE && result.len == len && memcmp(message, first, len) == 0);
+        EXPECT(list(same[i].items, same[i].len, 33 + 11 + 31, ROOM) == DNW_MESSAGE_TOO_LONG);
+    }
+    /* one that covers a type stands where it is, and makes no set with a SIG(0) */
+    EXPECT(lists(BYTES(SIG_RR("\000\001") SIG_RR("\000\000") SIG_RR("\000\002")), ROOM,
+                 WANTED(HEADER("\000\000\000\000\000\000\000\003") SIG_PUT("\000\001") SIG_PUT("\000\002") SIG_PUT("\000\000")), false));
+    EXPECT(list(BYTES(TSIG_RR TSIG_RR), ROOM, ROOM) == DNW_BAD_ITEM);
+    EXPECT(list(BYTES(TSIG_RR SIG_RR("\000\000")), ROOM, ROOM) == DNW_BAD_ITEM);
+    EXPECT(list(BYTES(SIG_RR("\000\000") TSIG_RR), ROOM, ROOM) == DNW_BAD_ITEM);
+    EXPECT(list(BYTES(OPT_RR OPT_RR), ROOM, ROOM) == DNW_DUPLICATE_EDNS);
+    EXPECT(list(BYTES("\003\001a\000\000\051\004\320\000\000\000\000\000\000"), ROOM, ROOM) == DNW_OWNER_NOT_ROOT);
+    EXPECT(list(BYTES("\003\000\000\051\004\320\000\000\000\000\000\001\007"), ROOM, ROOM) == DNW_CUT_OPTION);
+}
+
+/* A code above 15 needs OPT, which has its high bits (RFC 6891, section 6.1.3). A reply with FORMERR, NOTIMP or BADVERS has no records but
+   those that come last, and no TC. */
+static void writes_codes(void)
+{
+#define CODED(items, code, is_reply) dnw_message_write(BYTES(items), ROOM, 1, 0x800F, code, is_reply, 0, message, ROOM, &result)
+    for (uint16_t code = 0; code < 4200; code++) {
+        EXPECT(CODED(ASKED_A, code, false) == (code > 15 ? DNW_BAD_ITEM : DNW_DONE));
+        if (code < 16)
+            EXPECT(message[3] == code);
+        EXPECT(CODED(ASKED_A OPT_RR, code, false) == (code > 4095 ? DNW_BAD_ITEM : DNW_DONE));
+        if (code < 4096)
+            EXPECT(message[3] == code % 16 && message[49 + 5] == code / 16 && message[7] == 1);
+        bool is_bare = code == 1 || code == 4 || code == 16;
+        EXPECT(CODED(ASKED_A RR("\003", WEB) OPT_RR TSIG_RR, code, true) == (code > 4095 ? DNW_BAD_ITEM : DNW_DONE));
+        if (code < 4096)
+            EXPECT(message[7] == !is_bare && message[11] == (is_bare ? 2 : 3) && !result.truncated);
+    }
 }
 
 static void refuses_lists(void)
@@ -830,7 +889,7 @@ static void refuses_lists(void)
     EXPECT(list(BYTES("\000\100\000\001\000\001"), ROOM, ROOM) == DNW_BAD_ITEM);
     for (unsigned octet = 4; octet < 256; octet++) {
         uint8_t items[] = {(uint8_t)octet, 0, 255, 0, 0, 1, 0, 0, 0, 0, 0, 0};
-        bool is_known = octet == 67 || (octet >= 33 && octet <= 35) || (octet >= 129 && octet <= 131);
+        bool is_known = (octet >= 33 && octet <= 35) || (octet >= 129 && octet <= 131);
         EXPECT(list(items, sizeof items, ROOM, ROOM) == (is_known ? DNW_DONE : DNW_BAD_ITEM));
         EXPECT(list(items, sizeof items - 1, ROOM, ROOM) == DNW_BAD_ITEM);
     }
@@ -838,14 +897,11 @@ static void refuses_lists(void)
     EXPECT(list(BYTES(RR("\001", ROOT) ASKED), ROOM, ROOM) == DNW_BAD_ITEM);
     EXPECT(list(BYTES(RR("\202", ROOT) RR("\001", ROOT)), ROOM, ROOM) == DNW_BAD_ITEM);
     EXPECT(list(BYTES(RR("\003", ROOT) RR("\202", ROOT)), ROOM, ROOM) == DNW_BAD_ITEM);
-    EXPECT(list(BYTES(OPT_RR RR("\003", ROOT)), ROOM, ROOM) == DNW_BAD_ITEM);
     EXPECT(list(BYTES(OPT_RR "\000"), ROOM, 0) == DNW_BAD_ITEM);
     /* a second OPT record */
     EXPECT(list(BYTES(OPT_RR OPT_RR), ROOM, ROOM) == DNW_DUPLICATE_EDNS);
     EXPECT(list(BYTES("\003" PUT_OPT OPT_RR), ROOM, ROOM) == DNW_DUPLICATE_EDNS);
     EXPECT(list(BYTES("\003" PUT_OPT "\203" PUT_OPT), ROOM, ROOM) == DNW_DUPLICATE_EDNS);
-    /* one that is left out is none */
-    EXPECT(lists(BYTES("\203\000" FIELDS("\051") "\000\001\007" OPT_RR), 23, WANTED(HEADER("\000\000\000\000\000\000\000\001") PUT_OPT), false));
 }
 
 int main(void)
@@ -873,6 +929,8 @@ int main(void)
     takes_sets_back();
     never_cuts_requests();
     pads_lists();
+    puts_signatures_last();
+    writes_codes();
     refuses_lists();
     return 0;
 }

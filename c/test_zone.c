@@ -202,6 +202,37 @@ static void reads_what_is_left_out(void)
     GIVES(ROOT, "\n ; c\n\t\n(\n)\n;", "");
 }
 
+/* An SOA without a TTL has its minimum, and so has what follows it (BIND, dnspython); a caller's TTL comes last. */
+static void knows_times_to_live(void)
+{
+    GIVES(ISI, "@ SOA ns h 1 2 3 4 300\n@ NS ns\nns 60 A 1.2.3.4\nb A 1.2.3.5\n",
+          "1:1 ISI.EDU. 300 IN SOA ns.ISI.EDU. h.ISI.EDU. 1 2 3 4 300\n2:1 ISI.EDU. 300 IN NS ns.ISI.EDU.\n"
+          "3:1 ns.ISI.EDU. 60 IN A 1.2.3.4\n4:1 b.ISI.EDU. 300 IN A 1.2.3.5\n");
+    GIVES(ISI, "@ 7 SOA ns h 1 2 3 4 300\n@ NS ns\n",
+          "1:1 ISI.EDU. 7 IN SOA ns.ISI.EDU. h.ISI.EDU. 1 2 3 4 300\n2:1 ISI.EDU. 7 IN NS ns.ISI.EDU.\n");
+    struct dnw_zone zone;
+    struct dnw_zone_entry entry;
+    uint8_t octets[64];
+    EXPECT(dnw_zone_begin(BYTES(ROOT), &zone) == DNW_DONE);
+    zone.fallback_ttl = 9;
+    zone.has_fallback_ttl = 1;
+    EXPECT(dnw_zone_next(BYTES("a A 1.2.3.4\n"), false, &zone, octets, sizeof octets, &entry) == DNW_DONE);
+    EXPECT(entry.kind == DNW_ZONE_RECORD && entry.ttl == 9 && zone.has_fallback_ttl == 1 && zone.has_default_ttl == 0);
+}
+
+/* A parenthesis at the start of a line is no white space, and parentheses may stand in others (BIND, dnspython, ldns). */
+static void reads_parentheses(void)
+{
+    GIVES(ISI, "$TTL 9\na 5 TXT x\n(TXT TXT c)\n()b TXT c\n($TTL 7)\n ( TXT d )\nc A ((1.2.3.4))\n",
+          "2:1 a.ISI.EDU. 5 IN TXT \"x\"\n3:1 TXT.ISI.EDU. 9 IN TXT \"c\"\n4:1 b.ISI.EDU. 9 IN TXT \"c\"\n"
+          "6:1 b.ISI.EDU. 7 IN TXT \"d\"\n7:1 c.ISI.EDU. 7 IN A 1.2.3.4\n");
+    uint8_t text[300];
+    memset(text, '(', sizeof text);
+    struct dnw_text_fault fault;
+    EXPECT(dnw_record_text_fault(text, sizeof text, NULL, 0, &fault) == DNW_DONE);
+    EXPECT(fault.offset == 255 && fault.reason == DNW_REASON_NESTED_PARENTHESIS);
+}
+
 /* After an error the next line is read, with what the entries before it said. */
 static void reads_on_after_errors(void)
 {
@@ -209,18 +240,24 @@ static void reads_on_after_errors(void)
     GIVES(ISI, "a A 1.2.3.4\n", "1:3 error: no time to live is there, nor in an entry before `A`\n");
     GIVES(ISI, "$TTL 1\na..b A 1.2.3.4\na IN A 1.2.3.256\n",
           "2:1 error: the owner is no name `a..b`\n3:8 error: wanted an IPv4 address (field 0) `1.2.3.256`\n");
-    GIVES(ISI, "$TTL 1\na A 1.2.3.4\n MX 1 x y\n MX 65536 x\n NOTYPE 1\n TXT \"a\n A 1.2.3.5 ) x\n A (( 1\n A 1.2.3.6 \\\n A 1.2.3.7\n",
+    GIVES(ISI, "$TTL 1\na A 1.2.3.4\n MX 1 x y\n MX 65536 x\n NOTYPE 1\n TXT x\n A 1.2.3.5 ) x\n A (( 1.2.3.6\n )\n)\n A 1.2.3.6 \\\n A 1.2.3.7\n",
           "2:1 a.ISI.EDU. 1 IN A 1.2.3.4\n3:9 error: wanted the end of the data (field 2) `y`\n"
-          "4:5 error: wanted a number of at most 65535 (field 0) `65536`\n5:2 error: wanted a record type `NOTYPE`\n"
-          "6:8 error: the line ends within a quoted string ``\n7:12 error: no parenthesis is open ``\n"
-          "8:5 error: a parenthesis is opened within parentheses ``\n9:13 error: the line ends after a backslash ``\n"
-          "10:1 a.ISI.EDU. 1 IN A 1.2.3.7\n");
+          "4:5 error: wanted a number of at most 65535 (field 0) `65536`\n5:2 error: the type is unknown `NOTYPE`\n"
+          "6:1 a.ISI.EDU. 1 IN TXT \"x\"\n7:12 error: no parenthesis is open ``\n"
+          "8:1 a.ISI.EDU. 1 IN A 1.2.3.6\n11:13 error: the line ends after a backslash ``\n12:1 a.ISI.EDU. 1 IN A 1.2.3.7\n");
+    /* OPT, and types of 128 to 255, are none of a zone (RFC 6895, section 3.1); a TTL has at most 2147483647 seconds (RFC 2181,
+       section 8); NONE and ANY are no classes of records (RFC 6895, section 3.2) */
+    GIVES(ISI, "a 1 OPT \\# 0\na 1 TYPE200 \\# 0\na 1 TYPE127 \\# 0\na 2147483648 A 1.2.3.4\n$TTL 2147483648\na 1 NONE A 1.2.3.4\n",
+          "1:5 error: no zone has records of this type `OPT`\n2:5 error: no zone has records of this type `TYPE200`\n"
+          "3:1 a.ISI.EDU. 1 IN TYPE127 \\# 0\n4:3 error: the time is too large `2147483648`\n"
+          "5:6 error: the time is too large `2147483648`\n6:5 error: the type is unknown `NONE`\n");
     GIVES(ISI, "$TTL\n$TTL x\n$TTL 1 2\n$ORIGIN\n$ORIGIN a..\n$ORIGIN a b\n$INCLUDE\n$INCLUDE f a b\n$INCLUDE f a..\n$FOO\n$generate 1-2 a A 1\n",
           "1:5 error: no time is there ``\n2:6 error: no time is there `x`\n3:8 error: more words are there `2`\n"
           "4:8 error: no name is there ``\n5:9 error: no name is there `a..`\n6:11 error: more words are there `b`\n"
           "7:9 error: no file is there ``\n8:14 error: more words are there `b`\n9:12 error: no name is there `a..`\n"
           "10:1 error: no entry has this name `$FOO`\n11:1 error: $GENERATE is not read `$generate`\n");
-    GIVES(ISI, "a 1 A ( 1.2.3.4\n ; )\n", "3:1 error: the text ends within parentheses ``\n");
+    GIVES(ISI, "a 1 A ( 1.2.3.4\n ; )\n", "1:7 error: the text ends within parentheses ``\n");
+    GIVES(ISI, "a 1 TXT \"a\"b \"c\n", "1:14 error: the line ends within a quoted string `\"c\n`\n");
     GIVES(ISI, "a 1 TXT \\# 2 00\na 1 A \\# 3 000000\na 1 TXT \"x\\256\"\n",
           "1:14 error: wanted as many octets in hexadecimal as the number says (field 1) `00`\n"
           "2:12 error: wanted octets that are data of the type (field 1) `000000`\n"
@@ -323,7 +360,7 @@ static void refuses_origins(void)
 static void writes_lines(void)
 {
     static const char text[] = "$ORIGIN example.\n$TTL 60\n@ IN TXT \"a\"\n 5 IN TXT \"b\"\nx.y IN A 192.0.2.1\nY.EXAMPLE. CH TXT \"c\"\n"
-                               "xexample. IN A 192.0.2.1\n\\@ IN ANY \\# 0\n. IN A 192.0.2.1\n";
+                               "xexample. IN A 192.0.2.1\n\\@ IN TYPE1234 \\# 0\n. IN A 192.0.2.1\n";
     struct dnw_zone written;
     struct dnw_printed_record printed;
     uint8_t out[sizeof text];
@@ -403,7 +440,7 @@ static const char *const checked[] = {
     "c.a. 60 TXT x",
     "d.a. 60 DNAME b.",
     "x.d.a. 60 TXT x",
-    "ds.a. 60 DS 1 13 2 aa",
+    "ds.a. 60 DS 1 13 1 0000000000000000000000000000000000000000",
     "m.a. 60 MX 5 c.a.",
     "n_s.a. 60 A 192.0.2.1",
     "ns.a. 60 A 192.0.2.1",
@@ -422,6 +459,35 @@ static const struct dnw_zone_finding wanted[] = {
     {DNW_CHECK_NO_HOST_NAME, false, 10, SIZE_MAX}, {DNW_CHECK_OTHER_TTL, false, 12, 11},
     {DNW_CHECK_SOA_ELSEWHERE, true, 13, SIZE_MAX}, {DNW_CHECK_BELOW_DELEGATION, false, 16, 14},
     {DNW_CHECK_OTHER_CLASS, true, 17, SIZE_MAX}, {DNW_CHECK_OUT_OF_ZONE, true, 18, SIZE_MAX},
+};
+
+/* A zone with servers, wildcards, digests and tags that are wrong, and some that are right, and a line for each finding. */
+static const char *const served[] = {
+    "a. 60 SOA ns.a. h.a. 1 2 3 4 5",
+    "A. 60 SOA NS.a. h.A. 1 2 3 4 5",
+    "a. 60 NS ns.a.",
+    "a. 60 MX 1 192.0.2.9.",
+    "a. 60 MX 1 any.deep.w.a.",
+    "a. 60 MX 1 w.a.",
+    "c.a. 60 CAA \\# 6 0003612d6278",
+    "d.a. 60 DNAME b.",
+    "d.a. 60 NS ns.a.",
+    "ns.a. 60 A 192.0.2.1",
+    "s.a. 60 NS ns.t.a.",
+    "s.a. 60 DS 1 13 2 aa",
+    "t.a. 60 NS ns.t.a.",
+    "*.w.a. 60 A 192.0.2.2",
+    "*.x.a. 60 NS ns.a.",
+};
+static const struct dnw_zone_finding wanted_served[] = {
+    {DNW_CHECK_SERVER_IS_ADDRESS, false, 3, SIZE_MAX},
+    {DNW_CHECK_NO_SERVER_ADDRESS, false, 5, SIZE_MAX},
+    {DNW_CHECK_CAA_TAG, true, 6, SIZE_MAX},
+    {DNW_CHECK_NS_AND_DNAME, true, 7, 8},
+    {DNW_CHECK_NO_SIBLING_GLUE, false, 10, SIZE_MAX},
+    {DNW_CHECK_DIGEST_LENGTH, true, 11, SIZE_MAX},
+    {DNW_CHECK_NO_ADDRESS, true, 12, SIZE_MAX},
+    {DNW_CHECK_WILDCARD_NS, false, 14, SIZE_MAX},
 };
 
 static void checks_zones(void)
@@ -447,10 +513,24 @@ static void checks_zones(void)
     EXPECT(dnw_zone_check(BYTES("\001a\000"), records, end + end - last, found, 32, &count) == DNW_BAD_ITEM && count == 2);
 }
 
+static void checks_servers(void)
+{
+    static uint8_t records[ROOM];
+    struct dnw_zone_finding found[32] = {{0, false, 0, 0}};
+    size_t end = 0, len = 0, count = 0;
+    for (size_t n = 0; n < sizeof served / sizeof *served; n++, end += len)
+        EXPECT(dnw_record_parse((const uint8_t *)served[n], strlen(served[n]), NULL, 0, records + end, sizeof records - end, &len) == DNW_DONE);
+    EXPECT(dnw_zone_check(BYTES("\001a\000"), records, end, found, 32, &count) == DNW_DONE && count == sizeof wanted_served / sizeof *wanted_served);
+    for (size_t n = 0; n < count; n++)
+        EXPECT(found[n].check == wanted_served[n].check && found[n].is_error == wanted_served[n].is_error && found[n].number == wanted_served[n].number && found[n].other == wanted_served[n].other);
+}
+
 int main(void)
 {
     reads_the_example();
     reads_what_is_left_out();
+    knows_times_to_live();
+    reads_parentheses();
     reads_on_after_errors();
     reads_odd_lines();
     includes();
@@ -461,5 +541,6 @@ int main(void)
     writes_nothing();
     reads_hostile_texts();
     checks_zones();
+    checks_servers();
     return 0;
 }

@@ -70,7 +70,7 @@ static size_t respond(const uint8_t *request, size_t len, bool is_udp, uint8_t *
     plain[2] = 0x80 | (request[2] & 0x79) | (is_ours ? 4 : 0); /* QR, the operation and RD, AA */
     plain[3] = (uint8_t)((request[3] & 0x10) | (code & 15));   /* CD, the response code */
     uint16_t most = !is_udp ? NET_MAX : edns.max_payload < PAYLOAD ? edns.max_payload : PAYLOAD;
-    return dnw_message_pack(plain, at + sizeof opt, most, response, NET_MAX, &packed) == DNW_DONE ? packed.len : 0;
+    return dnw_message_pack(plain, at + sizeof opt, most, 0, response, NET_MAX, &packed) == DNW_DONE ? packed.len : 0;
 }
 
 int main(int argc, char **argv)

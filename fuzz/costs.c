@@ -74,7 +74,7 @@ static uint32_t name_read(void) { return dnw_name_read(IN, mark, OUT, &name); }
 static uint32_t name_read_text(void) { return dnw_name_read_text(IN, mark, OUT, &name); }
 static uint32_t message_read(void) { return dnw_message_read(IN, DNW_MAX_POINTERS, &message, &fault); }
 static uint32_t edns_read(void) { return dnw_edns_read(IN, DNW_MAX_POINTERS, &edns); }
-static uint32_t message_pack(void) { return dnw_message_pack(IN, 65535, OUT, &packed); }
+static uint32_t message_pack(void) { return dnw_message_pack(IN, 65535, 0, OUT, &packed); }
 static uint32_t message_table(void)
 {
     return dnw_message_table(IN, DNW_MAX_POINTERS, rows, MOST, OUT, &table);
@@ -132,7 +132,7 @@ static uint32_t zone_next(void)
     }
     return failure;
 }
-static uint32_t message_write(void) { return dnw_message_write(IN, 65535, 0, 0, 0, OUT, &packed); }
+static uint32_t message_write(void) { return dnw_message_write(IN, 65535, 0, 0, 0, false, 0, OUT, &packed); }
 static uint32_t name_print(void) { return dnw_name_print(IN, true, OUT, &len); }
 static uint32_t name_compare(void) { return dnw_name_compare(IN, IN, &order); }
 static uint32_t name_equal(void) { return dnw_name_equal(IN, IN, &is_it); }

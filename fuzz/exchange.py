@@ -35,7 +35,6 @@ MOST_POINTERS = ctypes.c_size_t(65536)
 HEADER_SIZE = 12
 
 # The kinds of items and of fields in dns_names_wire.h.
-LIST_LAST = 0x43
 FIELD_END, FIELD_NAME = 0, 1
 # The types of RFC 1035 whose data are a name: NS, MD, MF, CNAME, MB, MG, MR and PTR.
 OPT, TSIG = 41, 250
@@ -364,16 +363,16 @@ def written_again(wire, read):
     """The message that ours writes from what it has read."""
     number, flags = struct.unpack("!HH", wire[:4])
     items = [b"\0" + name + struct.pack("!HH", kind, question_class) for name, kind, question_class in read[1]]
-    last = []
+    high = 0
     for place, section in enumerate(read[2], 1):
         for (owner, kind, record_class, ttl, data), _ in section:
             fields = owner + struct.pack("!HHIH", kind, record_class, ttl, len(data)) + data
-            is_last = kind in (OPT, TSIG)
-            (last if is_last else items).append(bytes([LIST_LAST if is_last else place]) + fields)
-    last.sort(key=lambda item: item[1] != 0)  # OPT, and then TSIG
-    listed, room, written = b"".join(items + last), ctypes.create_string_buffer(65535), Pair()
+            items.append(bytes([place]) + fields)
+            high = ttl >> 24 if kind == OPT else high
+    listed, room, written = b"".join(items), ctypes.create_string_buffer(65535), Pair()
     answer = OURS.dnw_message_write(listed, ctypes.c_size_t(len(listed)), ctypes.c_size_t(65535), ctypes.c_uint16(number),
-                                    ctypes.c_uint16(flags), ctypes.c_uint16(0), room, ctypes.c_size_t(len(room)), ctypes.byref(written))
+                                    ctypes.c_uint16(flags), ctypes.c_uint16(high << 4 | flags & 15), ctypes.c_bool(False), ctypes.c_uint16(0),
+                                    room, ctypes.c_size_t(len(room)), ctypes.byref(written))
     check(answer == 0 and written.other & 255 == flags >> 9 & 1, "not written", answer, wire.hex())
     return room.raw[: written.len]
 
@@ -381,7 +380,7 @@ def written_again(wire, read):
 def packed(wire):
     """The message, packed by ours."""
     room, result = ctypes.create_string_buffer(65535), Pair()
-    answer = OURS.dnw_message_pack(wire, ctypes.c_size_t(len(wire)), ctypes.c_uint16(65535), room, ctypes.c_size_t(len(room)),
+    answer = OURS.dnw_message_pack(wire, ctypes.c_size_t(len(wire)), ctypes.c_uint16(65535), ctypes.c_uint16(0), room, ctypes.c_size_t(len(room)),
                                    ctypes.byref(result))
     check(answer == 0, "not packed", answer, wire.hex())
     return room.raw[: result.len]

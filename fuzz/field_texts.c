@@ -255,6 +255,25 @@ static bool add_identity(struct made *made, const uint8_t *octets)
     return tag_len > 0 && key_len > 0;
 }
 
+/* The types whose names fewer than three of five servers read, or of which ldns makes type 0: their numbers are printed. */
+static bool has_unread_name(uint16_t type)
+{
+    static const uint16_t types[] = {31,  32,  34,  40,  56,  57,  58,  66,  67,  68,  100,  101,
+                                     102, 103, 128, 258, 259, 260, 261, 262, 263, 264, 32768};
+    for (size_t i = 0; i < sizeof types / sizeof *types; i++)
+        if (type == types[i])
+            return true;
+    return false;
+}
+
+static void add_type(struct made *made, uint16_t type)
+{
+    if (has_unread_name(type))
+        add_number(made, "TYPE%u", type);
+    else
+        add_code(made, dnw_type_print, type);
+}
+
 /* RFC 4034, section 4.2: a window has no zeros at its end. */
 static bool add_bitmap(struct made *made, const uint8_t *octets, size_t len)
 {
@@ -264,7 +283,7 @@ static bool add_bitmap(struct made *made, const uint8_t *octets, size_t len)
         for (size_t bit = 0; bit < 8 * (size_t)octets[at + 1]; bit++)
             if (octets[at + 2 + bit / 8] & 0x80 >> bit % 8) {
                 add_text(made, " ");
-                add_code(made, dnw_type_print, (uint16_t)(256 * octets[at] + bit));
+                add_type(made, (uint16_t)(256 * octets[at] + bit));
             }
     }
     return true;
@@ -284,7 +303,7 @@ static bool add_bits(struct made *made, uint16_t type, const uint8_t *octets, si
         if (type == DNW_TYPE_WKS)
             add_number(made, "%u", bit);
         else
-            add_code(made, dnw_type_print, (uint16_t)bit);
+            add_type(made, (uint16_t)bit);
     }
     return true;
 }
@@ -422,15 +441,15 @@ static bool is_base64(uint16_t type)
     return false;
 }
 
-/* Octets up to the end: no word for none, but of an address of NSAP (RFC 1706, section 5). */
+/* Octets up to the end: none have no text, but of an address of NSAP (RFC 1706, section 5). */
 static bool add_octets(struct made *made, uint16_t type, const uint8_t *octets, size_t len)
 {
-    add_text(made, type == 22 ? " 0x" : len > 0 ? " " : "");
+    add_text(made, type == 22 ? " 0x" : " ");
     if (type == 22)
         add_groups(made, "%02x", "", octets, len, 1);
     else
         (is_base64(type) ? add_base64 : add_hex)(made, octets, len);
-    return true;
+    return type == 22 || len > 0;
 }
 
 /* A salt in base 16, or the hash of a name in base 32 with the extended alphabet (RFC 5155, section 3.3). */
@@ -474,7 +493,7 @@ bool add_field_text(struct made *made, uint16_t type, char letter, const uint8_t
     case 'Y': add_groups(made, "%04x", ":", octets, len, 2); break;
     case 'i': add_ipv4(made, octets); break;
     case 'I': add_ipv6(made, octets); break;
-    case 't': add_code(made, dnw_type_print, (uint16_t)model_number(octets, 2)); break;
+    case 't': add_type(made, (uint16_t)model_number(octets, 2)); break;
     case 'T': add_time(made, model_number(octets, 4)); break;
     case 's': case 'x': add_string(made, octets, len); break;
     default: return false;

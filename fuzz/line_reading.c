@@ -2,11 +2,12 @@
 
 uint32_t model_scan(struct part text, uint8_t *line, size_t *len)
 {
-    bool is_quoted = false, is_escaped = false, is_comment = false, is_grouped = false;
+    bool is_quoted = false, is_escaped = false, is_comment = false;
+    unsigned open = 0;
     size_t at = 0;
     for (; at < text.len; at++) {
         uint8_t c = text.bytes[at];
-        bool is_end = c == '\n' || c == '\r', is_kept = !is_comment;
+        bool is_end = c == '\n' || c == '\r', is_kept = !is_comment, is_grouped = open > 0;
         if (is_comment) {
             if (c == '\n' && !is_grouped)
                 break;
@@ -23,9 +24,9 @@ uint32_t model_scan(struct part text, uint8_t *line, size_t *len)
         } else if (is_end && !is_grouped) {
             break;
         } else if (c == '(' || c == ')') {
-            if (is_grouped == (c == '('))
+            if (c == '(' ? open == 255 : open == 0)
                 return DNW_ILLEGAL_CHARACTER;
-            is_grouped = c == '(';
+            open = c == '(' ? open + 1 : open - 1;
             is_kept = false;
         } else {
             is_comment = c == ';';
@@ -38,7 +39,7 @@ uint32_t model_scan(struct part text, uint8_t *line, size_t *len)
     *len = at;
     if (at == text.len && (is_quoted || is_escaped))
         return is_quoted ? DNW_UNCLOSED_QUOTE : DNW_TEXT_CUT;
-    if (at == text.len && is_grouped)
+    if (at == text.len && open > 0)
         return DNW_UNCLOSED_LIST;
     return DNW_DONE;
 }

@@ -28,7 +28,7 @@ OURS, READER, GO = ctypes.CDLL(sys.argv[1]), *sys.argv[2:]
 HERE = pathlib.Path(__file__).resolve().parent
 # The sections of a message, and the marks of items that may be left out without TC, and that come last.
 QUESTION, ANSWER, AUTHORITY, ADDITIONAL = range(4)
-OPTIONAL, LAST = 0x80, 0x40
+OPTIONAL = 0x80
 RESPONSE, CUT = 0x8400, 0x0200
 ZONE = """
 @ ANY ANSWER
@@ -85,14 +85,14 @@ def list_of(sets, with_edns):
     items = [item(QUESTION, sets[0][1][0][0], 255, 1)]
     for section, records in sets:
         items += [item(section | (OPTIONAL if section == ADDITIONAL else 0), *record) for record in records]
-    return b"".join(items) + (item(ADDITIONAL | LAST, b"\0", 41, 1232, 0x8000, b"\0\x0a\0\x08COOKIE12") if with_edns else b"")
+    return b"".join(items) + (item(ADDITIONAL, b"\0", 41, 1232, 0x8000, b"\0\x0a\0\x08COOKIE12") if with_edns else b"")
 
 
 def write(items, maximum):
     """The message of a list, or None if the maximum has no room for what is never left out."""
     room, result = ctypes.create_string_buffer(65535), Packed()
     size = ctypes.c_size_t
-    failure = OURS.dnw_message_write(items, size(len(items)), size(maximum), 0x1234, RESPONSE, 0, room, size(len(room)), ctypes.byref(result))
+    failure = OURS.dnw_message_write(items, size(len(items)), size(maximum), 0x1234, RESPONSE, 0, False, 0, room, size(len(room)), ctypes.byref(result))
     return None if failure else room.raw[: result.len]
 
 
@@ -189,7 +189,7 @@ def replies():
     for line in (HERE.parent / "diff" / "servers" / "replies.txt").read_text().split("\n")[:-1]:
         server, text = line.split(" ", 2)[:2]
         octets, room, result, size = bytes.fromhex(text), ctypes.create_string_buffer(65535), Packed(), ctypes.c_size_t
-        if OURS.dnw_message_pack(octets, size(len(octets)), 65535, room, size(len(room)), ctypes.byref(result)):
+        if OURS.dnw_message_pack(octets, size(len(octets)), 65535, 0, room, size(len(room)), ctypes.byref(result)):
             continue
         count, theirs, ours = sizes.get(server, (0, 0, 0))
         sizes[server] = (count + 1, theirs + len(octets), ours + result.len)

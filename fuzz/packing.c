@@ -235,19 +235,19 @@ static void packs(const uint8_t *message, size_t len, uint16_t most)
     struct dnw_packed model, packed = {7, false};
     uint32_t answer = model_pack(message, len, most, &model);
     uint8_t *copy = clear(&output, most);
-    CHECK(dnw_message_pack(message, len, UINT16_MAX, copy, most, &packed) == answer);
+    CHECK(dnw_message_pack(message, len, UINT16_MAX, 0, copy, most, &packed) == answer);
     if (answer != DNW_DONE) {
         CHECK(packed.len == 7 && !packed.truncated);
         return;
     }
     CHECK(packed.len == model.len && packed.truncated == model.truncated && memcmp(copy, wanted, model.len) == 0);
     copy = clear(&output, UINT16_MAX);
-    CHECK(dnw_message_pack(message, len, most, copy, UINT16_MAX, &packed) == DNW_DONE);
+    CHECK(dnw_message_pack(message, len, most, 0, copy, UINT16_MAX, &packed) == DNW_DONE);
     CHECK(packed.len == model.len && packed.truncated == model.truncated && memcmp(copy, wanted, model.len) == 0);
     for (size_t number = 1; number <= 16; number *= 2) {
         copy = clear(&output, most);
         refuse(number);
-        answer = dnw_message_pack(message, len, most, copy, most, &packed);
+        answer = dnw_message_pack(message, len, most, 0, copy, most, &packed);
         CHECK(was_refused() ? answer == DNW_NO_MEMORY : answer == DNW_DONE);
     }
 }

@@ -55,7 +55,7 @@ static uint32_t model_line(struct part text, struct part origin, size_t *len)
     if (failure != DNW_DONE)
         return failure;
     struct reader r = {{line, line_len}, origin, wanted, 0};
-    if (line_len == 0 || is_blank(line[0]) || !take_name(&r))
+    if (line_len == 0 || is_blank(text.bytes[0]) || !take_name(&r))
         return DNW_BAD_TEXT;
     *len = r.len;
     failure = head_of(&r, wanted + *len, &type);

@@ -66,7 +66,7 @@ static void add_data(const uint8_t *message, const struct dnw_record *record)
         add(&octets, message + record->data_offset, record->data_len);
     }
     are_fields = failure == DNW_DONE;
-    /* a text without a word is that of data that are left out, and not that of no octets in base 64 */
+    /* a text without a word is that of data that are left out, and not that of no prefixes */
     if (!are_fields || !has_text || (row[0] != 0 && line.len == line_len)) {
         line.len = line_len;
         add_text(&line, " \\#");

@@ -122,7 +122,7 @@ class ThroughC:
     def __call__(self, octets, size):
         """The message in so many octets, or None if it is too long."""
         packed = Packed()
-        words = octets, ctypes.c_size_t(len(octets)), ctypes.c_uint16(size), self.room, ctypes.c_size_t(len(self.room)), ctypes.byref(packed)
+        words = octets, ctypes.c_size_t(len(octets)), ctypes.c_uint16(size), ctypes.c_uint16(0), self.room, ctypes.c_size_t(len(self.room)), ctypes.byref(packed)
         answer = self.library.dnw_message_pack(*words)
         check(answer in (0, TOO_LONG), "dnw_message_pack", answer, octets.hex())
         check(not (answer == 0 and packed.truncated), "dnw_message_pack sets TC", size, octets.hex())

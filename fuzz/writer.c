@@ -393,7 +393,7 @@ struct listed {
 static bool read_listed(const uint8_t *list, size_t len, size_t at, struct listed *item)
 {
     item->octet = list[at];
-    if (item->octet > 3 && item->octet != 67 && (item->octet < 33 || item->octet > 35) && (item->octet < 129 || item->octet > 131))
+    if (item->octet > 3 && (item->octet < 33 || item->octet > 35) && (item->octet < 129 || item->octet > 131))
         return false;
     if (model_read(list, len, at + 1, &item->name) != DNW_DONE)
         return false;
@@ -438,6 +438,16 @@ static bool are_of_one_set(const uint8_t *list, const struct listed *item, const
     return item->octet == other->octet && model_are_of_one_set(&first, &next);
 }
 
+/* A record comes last: OPT, or a signature of the message. */
+static bool is_end(const uint8_t *list, const struct listed *item)
+{
+    if (item->octet % 4 != 3)
+        return false;
+    uint16_t code = code_of(list, item, 0);
+    bool covers_no_type = item->data.len >= 2 && item->data.bytes[0] == 0 && item->data.bytes[1] == 0;
+    return code == DNW_TYPE_OPT || code == DNW_TYPE_TSIG || (code == DNW_TYPE_SIG && covers_no_type);
+}
+
 /* One of so many records, from an offset on, and a record that is left out are half of a set each, and none is the same. */
 static bool is_half(const uint8_t *list, size_t len, size_t at, unsigned count, const struct listed *item)
 {
@@ -446,6 +456,10 @@ static bool is_half(const uint8_t *list, size_t len, size_t at, unsigned count, 
     bool is_half = false;
     for (; count > 0; count--, at = there.end) {
         CHECK(read_listed(list, len, at, &there));
+        if (is_end(list, &there)) {
+            count++;
+            continue;
+        }
         struct model_member own = member(list, &there);
         if (model_are_the_same(&own, &out))
             return false;
@@ -461,27 +475,57 @@ static bool is_missed(const uint8_t *list, const struct listed *item, struct mod
     return item->octet >= 32 ? item->octet < 128 : is_required;
 }
 
+/* Writes what comes last in a message with this code. */
+static uint32_t write_ends(const uint8_t *list, const struct listed *opt, const struct listed *signature, uint16_t code, uint16_t block,
+                           uint8_t *message, size_t size, struct dnw_writer *w)
+{
+    if (opt->end > 0) {
+        const uint8_t *fields = list + opt->fields;
+        if (opt->name.len > 1)
+            return DNW_OWNER_NOT_ROOT;
+        uint32_t answer = dnw_writer_edns(message, size, 11 + opt->data.len, code_of(list, opt, 2), (uint8_t)(code >> 4), fields[5],
+                                          fields[6] >= 128, opt->data.bytes, opt->data.len, block, w);
+        if (answer != DNW_DONE)
+            return answer;
+    }
+    if (signature->end == 0)
+        return DNW_DONE;
+    /* no name of the message is known to what comes last */
+    dnw_writer_release(signature->name.len + 10 + signature->data.len, w);
+    w->owner = 0;
+    memset(w->hints, 0, sizeof w->hints);
+    return add_listed(list, signature, 4, message, size, w);
+}
+
 /* Writes a list by the calls for its items, and puts whether something required is missing. */
-static uint32_t model_list(const uint8_t *list, size_t len, size_t max_size, uint16_t flags, uint16_t block, uint8_t *message, size_t size,
-                           struct dnw_writer *w, bool *missing)
+static uint32_t model_list(const uint8_t *list, size_t len, size_t max_size, uint16_t flags, uint16_t code, bool is_reply, uint16_t block,
+                           uint8_t *message, size_t size, struct dnw_writer *w, bool *missing)
 {
     struct model_purpose purpose = model_purpose(flags);
-    struct listed item, next;
+    struct listed item, next, opt = {0}, signature = {0};
+    bool is_bare = is_reply && (code == 1 || code == 4 || code == 16);
     size_t held = 0;
     unsigned place = 0;
     for (size_t at = 0; at < len; at = item.end) {
-        unsigned own = list[at] == 67 ? 4 : list[at] % 4;
+        unsigned own = list[at] % 4;
         if (own < place || !read_listed(list, len, at, &item))
             return DNW_BAD_ITEM;
         place = own;
-        if (item.octet == 67)
+        if (is_end(list, &item)) {
+            bool is_opt = code_of(list, &item, 0) == DNW_TYPE_OPT;
+            struct listed *end = is_opt ? &opt : &signature;
+            if (end->end > 0)
+                return is_opt ? DNW_DUPLICATE_EDNS : DNW_BAD_ITEM;
+            *end = item;
             held += item.name.len + 10 + item.data.len;
-        else if (item.octet > 0)
+        } else if (item.octet > 0)
             model_take(&purpose, item.octet % 4, &item.name, code_of(list, &item, 0));
         else if (purpose.asked == UINT32_MAX)
             purpose.asked = code_of(list, &item, 0);
     }
-    uint32_t begun = dnw_writer_begin(message, size, max_size, 1, flags, w);
+    if (code > (opt.end > 0 ? 4095 : 15))
+        return DNW_BAD_ITEM;
+    uint32_t begun = dnw_writer_begin(message, size, max_size, 1, (uint16_t)((flags & ~15) | (code & 15)), w);
     if (begun != DNW_DONE)
         return begun;
     dnw_writer_hold(held, w);
@@ -491,32 +535,20 @@ static uint32_t model_list(const uint8_t *list, size_t len, size_t max_size, uin
         CHECK(read_listed(list, len, at, &item));
         unsigned section = item.octet % 4;
         uint32_t answer;
-        if (item.octet != 0 && item.octet != 67 && section != opened) {
+        if (is_end(list, &item) || (is_bare && item.octet > 0)) {
+            at = item.end;
+            continue;
+        }
+        if (item.octet != 0 && section != opened) {
             opened = section;
             start = at;
             out = 0;
         }
-        unsigned there = item.octet == 67 ? 0 : (unsigned)model_number(message + 4 + 2 * section, 2);
+        unsigned there = (unsigned)model_number(message + 4 + 2 * section, 2);
         if (item.octet == 0) {
             const uint8_t *fields = list + item.fields;
             answer = dnw_writer_question(message, size, item.name.form, item.name.len, (uint16_t)model_number(fields, 2),
                                          (uint16_t)model_number(fields + 2, 2), w);
-            if (answer != DNW_DONE)
-                return answer;
-            at = item.end;
-        } else if (item.octet == 67 && block > 0 && code_of(list, &item, 0) == DNW_TYPE_OPT && item.name.len == 1) {
-            const uint8_t *fields = list + item.fields;
-            answer = dnw_writer_edns(message, size, 11 + item.data.len, code_of(list, &item, 2), fields[4], fields[5], fields[6] >= 128,
-                                     item.data.bytes, item.data.len, block, w);
-            if (answer != DNW_DONE)
-                return answer;
-            at = item.end;
-        } else if (item.octet == 67) {
-            /* no name of the message is known to what comes last */
-            dnw_writer_release(item.name.len + 10 + item.data.len, w);
-            w->owner = 0;
-            memset(w->hints, 0, sizeof w->hints);
-            answer = add_listed(list, &item, 4, message, size, w);
             if (answer != DNW_DONE)
                 return answer;
             at = item.end;
@@ -528,7 +560,7 @@ static uint32_t model_list(const uint8_t *list, size_t len, size_t max_size, uin
             struct dnw_writer before = *w;
             uint8_t counts[8];
             memcpy(counts, message + 4, 8);
-            for (next = item; are_of_one_set(list, &item, &next);) {
+            for (next = item; !is_end(list, &next) && are_of_one_set(list, &item, &next);) {
                 answer = add_listed(list, &next, section + 1, message, size, w);
                 if (answer == DNW_MESSAGE_TOO_LONG && !model_is_uncut(&purpose)) {
                     *w = before;
@@ -549,7 +581,7 @@ static uint32_t model_list(const uint8_t *list, size_t len, size_t max_size, uin
             }
         }
     }
-    return DNW_DONE;
+    return write_ends(list, &opt, &signature, code, block, message, size, w);
 }
 
 static void writes_list(const uint8_t *list, size_t len, size_t max_size, size_t size)
@@ -562,10 +594,13 @@ static void writes_list(const uint8_t *list, size_t len, size_t max_size, size_t
     /* responses to queries, requests, and responses to updates */
     static const uint16_t kinds[] = {0x8002, 0x8002, 2, 0xA802};
     uint16_t flags = kinds[max_size % 4];
+    static const uint16_t codes[] = {0, 2, 1, 4, 15, 16, 23, 4095, 4096, 3};
+    uint16_t code = codes[max_size % 10];
+    bool is_reply = max_size % 7 < 3;
     uint16_t block = max_size % 3 == 0 ? (uint16_t)(max_size % 130) : 0;
-    uint32_t wanted = model_list(list, len, max_size, flags, block, own, size, &w, &missing);
+    uint32_t wanted = model_list(list, len, max_size, flags, code, is_reply, block, own, size, &w, &missing);
     uint8_t *message = clear(&lists, size);
-    uint32_t answer = dnw_message_write(list, len, max_size, 1, flags, block, message, size, &written);
+    uint32_t answer = dnw_message_write(list, len, max_size, 1, flags, code, is_reply, block, message, size, &written);
     CHECK(answer == wanted);
     if (answer != DNW_DONE) {
         CHECK(written.len == 7 && !written.truncated);

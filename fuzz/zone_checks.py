@@ -25,21 +25,26 @@ ADDED = [
     ["a_b MX 1 ns"], ["-a A 192.0.2.2"], ["*.w A 192.0.2.2"], ["@ MX 1 ns"], ["@ MX 1 lost"], ["@ MX 1 alias", "alias CNAME ns"], ["@ MX 0 ."],
     ["@ MX 1 mail.other."], ["* A 192.0.2.2", "@ MX 1 mail"], ["_s._tcp SRV 0 0 1 lost"], ["_s._tcp SRV 0 0 1 alias", "alias CNAME ns"], ["@ MX 1 x.sub", "sub NS ns"],
     ["ds DS 1 13 2 " + "00" * 32], ["sub NS ns", "sub DS 1 13 2 " + "00" * 32], ["@ DS 1 13 2 " + "00" * 32], ["www CNAME ns", "www NSEC z CNAME NSEC"],
+    ["www CNAME ns", "WWW CNAME NS"], ["d DNAME other.", "d NS ns"], ["@ NS 1.2.3.4."], ["@ MX 1 1.2.3.4."], ["@ MX 1 1.2.3.4"], ["*.w NS ns"],
+    ["sub NS ns", "sub DS 1 13 2 aa"], ["sub NS ns", "sub DS 1 13 1 " + "00" * 32], ["@ ZONEMD 1 1 1 aa"], ["@ CAA 0 \"a-b\" \"x\""], ["@ NS ns.sub", "sub NS ns.other."],
+    ["* A 192.0.2.2", "@ MX 1 a.b.c"], ["* A 192.0.2.2", "@ MX 1 txt", "txt TXT x"], ["* A 192.0.2.2", "@ MX 1 ent", "x.ent TXT x"],
+    ["*.w CNAME ns", "@ MX 1 x.w"], ["sub NS ns.x.sub", "*.sub A 192.0.2.2"], ["@ NS x.d", "d DNAME other."], ["sub NS ns.b", "b NS ns.other."],
 ]
 LESS = [SOA, NS, GLUE]
 # What another tool's sentence means, by the tool; a number is of `enum dnw_check`.
 SAYS = {
     "named": [
-        (r"has no address records|has no A or AAAA|missing glue|extra GLUE", 14), (r"CNAME and other data", 8), (r"multiple RRs of singleton type", 6),
+        (r"/NS .* has no address records|has no A or AAAA|REQUIRED GLUE", 14), (r"SIBLING GLUE", 20), (r"/(MX|SRV) .* has no address records", 21),
+        (r"appears to be an address|is an address", 19), (r"invalid NS owner name", 16), (r"fromtext.*unexpected end of input", 17), (r"fromtext.*unexpected token", 18), (r"CNAME and other data", 8), (r"multiple RRs of singleton type", 6),
         (r"out-of-zone data", 3), (r"not at top of zone", 5), (r"TTL set to prior TTL", 7), (r"bad owner name", 12), (r"is a CNAME|is below a DNAME", 13),
         (r"has 0 SOA records|no SOA", 1), (r"has no NS records", 2), (r"below.*DNAME|DNAME.*below", 10),
     ],
     "knot": [
-        (r"missing glue", 14), (r"beside CNAME", 8), (r"multiple CNAME|multiple DNAME|multiple SOA", 6), (r"out-of-zone", 3), (r"TTL mismatch", 7),
+        (r"missing glue", 14), (r"NS record exists beside DNAME", 15), (r"invalid digest length", 17), (r"beside CNAME", 8), (r"multiple CNAME|multiple DNAME|multiple SOA", 6), (r"out-of-zone", 3), (r"TTL mismatch", 7),
         (r"missing SOA|no SOA", 1), (r"missing NS at the zone apex", 2), (r"under DNAME", 10),
     ],
     "nsd": [
-        (r"CNAME and other data", 8), (r"multiple CNAMEs|multiple DNAME|multiple SOA|Duplicate SOA", 6), (r"outside the zone", 3), (r"does not match the TTL", 7),
+        (r"invalid tag", 18), (r"CNAME and other data", 8), (r"multiple CNAMEs|multiple DNAME|multiple SOA|Duplicate SOA", 6), (r"outside the zone", 3), (r"does not match the TTL", 7),
         (r"invalid domain name", 5), (r"SOA record not present|no SOA|missing SOA", 1), (r"data below it", 10),
     ],
 }
@@ -47,7 +52,8 @@ SAYS = {
 OWN = {
     2: "NSD and Knot ask for no NS record", 9: "others pass over a DS record that is at no delegation, or say so only of signed zones",
     11: "others occlude such records and say nothing", 12: "BIND alone checks names", 13: "BIND alone follows names of servers to aliases",
-    14: "BIND alone asks for the addresses of mail servers", 5: "Knot says nothing", 6: "the others refuse or merge",
+    14: "BIND alone follows wildcards", 15: "Knot alone", 16: "BIND alone", 17: "NSD says nothing", 18: "Knot says nothing",
+    19: "BIND alone", 20: "BIND alone, of RFC 9471, section 3.2", 21: "BIND alone asks for the addresses of mail servers", 5: "Knot says nothing", 6: "the others refuse or merge",
 }
 
 

@@ -61,6 +61,7 @@ static void is_that_of_model(struct part text, const struct dnw_zone *before, co
     CHECK(zone.origin_len == after->origin_len && memcmp(zone.origin, after->origin, zone.origin_len) == 0);
     CHECK(zone.owner_len == after->owner_len && memcmp(zone.owner, after->owner, zone.owner_len) == 0);
     CHECK(zone.has_default_ttl == after->has_default_ttl && (!zone.has_default_ttl || zone.default_ttl == after->default_ttl));
+    CHECK(zone.has_fallback_ttl == after->has_fallback_ttl && zone.fallback_ttl == after->fallback_ttl);
     CHECK(zone.has_last_ttl == after->has_last_ttl && (!zone.has_last_ttl || zone.last_ttl == after->last_ttl));
     CHECK(zone.record_class == after->record_class);
     if (entry->kind == DNW_ZONE_ERROR)

@@ -332,14 +332,18 @@ struct dnw_packed {
    records are as any. Names in the data of types of RFC 1035 are compressed too, and others are not (RFC 3597, section 4).
    Octets after the message are ignored.
 
+   If `block` is not 0, the OPT record gets the option for padding, as dnw_writer_edns adds it, and comes before the signature:
+   the message is a multiple of `block` octets, unless there is no OPT record, or it has that option already, which is there
+   once at most (RFC 7830, section 3).
+
    It fails as dnw_message_read with DNW_MAX_POINTERS if the message is not complete, and as dnw_edns_read if its EDNS
    is not valid. If the data of a record are not valid, it fails as dnw_field_next does at the first wrong field. It
    fails with DNW_TOO_MANY_POINTERS if the names in the data of the records, each read up to the first wrong field, follow
    more than DNW_MAX_POINTERS in all; with DNW_NO_ROOM if the buffer has no room for a header; with DNW_MESSAGE_TOO_LONG if
    the header, the questions and the records that are never left out have no room, or any record of a message that is never
    cut; and with DNW_NO_MEMORY. If it fails, octets of the buffer may have changed. */
-uint32_t dnw_message_pack(const uint8_t *message, size_t message_len, uint16_t max_size, uint8_t *packed, size_t packed_size,
-                          struct dnw_packed *result);
+uint32_t dnw_message_pack(const uint8_t *message, size_t message_len, uint16_t max_size, uint16_t block, uint8_t *packed,
+                          size_t packed_size, struct dnw_packed *result);
 
 /* The offset of the next field of a record's data in the message, and the number of fields before it. A caller sets it
    to {record.data_offset, 0}, and dnw_field_next does the rest. */
@@ -486,11 +490,13 @@ uint32_t dnw_record_print(const uint8_t *message, size_t message_len, size_t sta
    IANA's mnemonics, as `RSASHA256`. A word ends before white space, a quote, a parenthesis or a semicolon, and one in
    quotes at its last quote; only strings may be in quotes. Strings and the values of service parameters may have any
    octets as they are, also above 127. `*` is no type. If service parameters have `mandatory`, the keys that it lists have
-   to be there (RFC 9460, section 8). Parentheses and comments are no part of data here, but of dnw_record_parse.
+   to be there (RFC 9460, section 8). The text is one entry: comments are left out, and in parentheses the end of a line is
+   white space.
 
-   If the origin is not a wire form, it fails as dnw_name_compare. Otherwise it fails with DNW_BAD_DATA if the text is not
-   data of the type, or has more than 65535 octets of data; with DNW_NO_ROOM if it has more than `data_size`; and with
-   DNW_NO_MEMORY. dnw_data_text_fault reports where the text is wrong. */
+   If the origin is not a wire form, it fails as dnw_name_compare. Otherwise it fails with DNW_UNCLOSED_LIST,
+   DNW_UNCLOSED_QUOTE, DNW_TEXT_CUT or DNW_ILLEGAL_CHARACTER, as dnw_record_parse; with DNW_BAD_DATA if the text is not
+   data of the type, has more than 65535 octets of data, or if more than white space follows the entry; with DNW_NO_ROOM if
+   it has more than `data_size`; and with DNW_NO_MEMORY. dnw_data_text_fault reports where the text is wrong. */
 uint32_t dnw_data_parse(uint16_t record_class, uint16_t record_type, const uint8_t *text, size_t text_len, const uint8_t *origin,
                         size_t origin_len, uint8_t *data, size_t data_size, size_t *len);
 
@@ -507,7 +513,7 @@ uint32_t dnw_data_parse(uint16_t record_class, uint16_t record_type, const uint8
 
    If the origin is not a wire form, it fails as dnw_name_compare. Otherwise it fails with
    DNW_UNCLOSED_LIST, DNW_UNCLOSED_QUOTE or DNW_TEXT_CUT if the text ends within parentheses, or a line within a quoted
-   string or an escape; with DNW_ILLEGAL_CHARACTER at a parenthesis within parentheses, or one that closes none; with
+   string or an escape; with DNW_ILLEGAL_CHARACTER at a parenthesis within 255 others, or one that closes none; with
    DNW_BAD_TEXT if the first word is not a name, or there is no word; with DNW_BAD_TIME if there is no TTL, or none
    after the class; with DNW_UNKNOWN_TEXT if there is no type; as dnw_data_parse for the data; with DNW_BAD_DATA if more
    than white space follows the entry; with DNW_NO_ROOM if the record has more than `record_size` octets; and with
@@ -519,7 +525,7 @@ uint32_t dnw_record_parse(const uint8_t *text, size_t text_len, const uint8_t *o
    its place. */
 enum dnw_text_reason {
     DNW_REASON_NONE = 0,                      /* nothing is wrong */
-    DNW_REASON_NESTED_PARENTHESIS = 1,        /* a parenthesis is opened within parentheses */
+    DNW_REASON_NESTED_PARENTHESIS = 1,        /* more than 255 parentheses are open */
     DNW_REASON_UNOPENED_PARENTHESIS = 2,      /* a parenthesis is closed that none opened */
     DNW_REASON_UNCLOSED_PARENTHESIS = 3,      /* the text ends within parentheses */
     DNW_REASON_UNCLOSED_QUOTE = 4,            /* a line ends within a quoted string */
@@ -538,6 +544,9 @@ enum dnw_text_reason {
     DNW_REASON_NO_TIME = 17,                  /* `$TTL` has no time */
     DNW_REASON_NO_FILE = 18,                  /* `$INCLUDE` has no file */
     DNW_REASON_WORDS_LEFT = 19,               /* more is in an entry than it may have */
+    DNW_REASON_UNKNOWN_TYPE = 20,             /* the type of a record of a zone file is unknown */
+    DNW_REASON_OTHER_TYPE = 21,               /* no zone has records of the type: OPT, 128 to 255 (RFC 6895, section 3.1) */
+    DNW_REASON_TIME_TOO_LARGE = 22,           /* a time of more than 2147483647 seconds (RFC 2181, section 8) */
     DNW_REASON_NAME = 32,                     /* a name; one without a dot at its end if there is an origin */
     DNW_REASON_U8 = 33,                       /* a number of one octet, in decimal */
     DNW_REASON_U16 = 34,                      /* a number of two octets, in decimal */
@@ -623,17 +632,20 @@ enum dnw_zone_kind {
 #define DNW_ZONE_OCTETS_SIZE 65800
 
 /* Up to where a zone file was read or written, and what its entries so far say for later ones. dnw_zone_begin and
-   dnw_zone_include fill it in, and a caller only reads it. It is plain data: it may be copied, and a copy put back, with the text after it, goes
-   back. Whatever it holds, no call does harm. */
+   dnw_zone_include fill it in, and a caller only reads it, but for `fallback_ttl` and its flag, which a caller may set
+   before the first entry. It is plain data: it may be copied, and a copy put back, with the text after it, goes back.
+   Whatever it holds, no call does harm. */
 struct dnw_zone {
     size_t offset;        /* the octets of the file that were read */
     size_t line;          /* the line feeds among them */
     size_t column;        /* the octets after the last line feed */
-    uint32_t default_ttl; /* of $TTL, unless `has_default_ttl` is 0 */
-    uint32_t last_ttl;    /* of the last record that has its own, unless `has_last_ttl` is 0 */
+    uint32_t default_ttl;  /* of $TTL, or the minimum of an SOA without a TTL, unless `has_default_ttl` is 0 */
+    uint32_t last_ttl;     /* of the last record that has its own, unless `has_last_ttl` is 0 */
+    uint32_t fallback_ttl; /* of records for which the file states none, unless `has_fallback_ttl` is 0 */
     uint16_t record_class;
     uint8_t has_default_ttl;
     uint8_t has_last_ttl;
+    uint8_t has_fallback_ttl;
     uint8_t origin_len;
     uint8_t owner_len; /* 0 before the first record */
     uint8_t origin[DNW_FORM_SIZE];
@@ -675,7 +687,8 @@ uint32_t dnw_zone_include(const uint8_t *origin, size_t origin_len, struct dnw_z
 
    For DNW_ZONE_RECORD the buffer has the record as dnw_record_parse stores it. A record without an owner has that of the
    record before it, and one without a class the last class, or IN. The TTL is the record's own, or that of the last $TTL, or
-   the last one that a record has. For DNW_ZONE_INCLUDE the buffer has the wire form of the origin, and then the name of the
+   the last one that a record has; without these, an SOA and what follows it have its minimum, and other records have
+   `fallback_ttl`. For DNW_ZONE_INCLUDE the buffer has the wire form of the origin, and then the name of the
    file, without quotes and escapes. It has an octet, and no zero octet, is UTF-8 but for its escapes, and is not null-
    terminated; another name is DNW_REASON_NO_FILE. For DNW_ZONE_ERROR nothing is stored in the buffer, and `zone` is after
    the line of the error: the next call goes on at the next entry, with what the entries before said. $GENERATE is an error.
@@ -711,7 +724,8 @@ uint32_t dnw_zone_put_origin(const uint8_t *origin, size_t origin_len, struct dn
 uint32_t dnw_zone_put_ttl(uint32_t ttl, struct dnw_zone *zone, uint8_t *text, size_t text_size, size_t *len);
 
 /* What dnw_zone_check finds. All are errors, which servers refuse or serve wrong, but for DNW_CHECK_OTHER_TTL,
-   DNW_CHECK_BELOW_DELEGATION and DNW_CHECK_NO_HOST_NAME, which are warnings. */
+   DNW_CHECK_BELOW_DELEGATION, DNW_CHECK_NO_HOST_NAME, DNW_CHECK_WILDCARD_NS, DNW_CHECK_SERVER_IS_ADDRESS,
+   DNW_CHECK_NO_SIBLING_GLUE and DNW_CHECK_NO_SERVER_ADDRESS, which are warnings. */
 enum dnw_check {
     DNW_CHECK_NO_SOA = 1,            /* the apex has no SOA record (RFC 1035, section 5.2) */
     DNW_CHECK_NO_NS = 2,             /* the apex has no NS record (RFC 1034, section 4.2.1) */
@@ -719,7 +733,7 @@ enum dnw_check {
     DNW_CHECK_OTHER_CLASS = 4,       /* the class is not that of the first record (RFC 1035, section 5.2) */
     DNW_CHECK_SOA_ELSEWHERE = 5,     /* a SOA record is not at the apex */
     DNW_CHECK_TWO_OF_ONE = 6,        /* a name has two SOA, CNAME (RFC 2181, section 10.1) or DNAME records (RFC 6672, section
-                                        2.4) with different data; `other` is the first */
+                                        2.4) with different data, but for the case of names (RFC 4343); `other` is the first */
     DNW_CHECK_OTHER_TTL = 7,         /* the TTL is not that of the set's first record, `other` (RFC 2181, section 5.2) */
     DNW_CHECK_CNAME_AND_OTHER = 8,   /* the owner of a CNAME record has other data, `other` (RFC 2181, section 10.1); SIG, KEY
                                         and NXT (RFC 2535), RRSIG and NSEC may be there (RFC 4034) */
@@ -728,10 +742,24 @@ enum dnw_check {
     DNW_CHECK_BELOW_DELEGATION = 11, /* the owner is below that of an NS record, `other`, and the record is no address */
     DNW_CHECK_NO_HOST_NAME = 12,     /* the owner of an A, AAAA or MX record is no name of a host (RFC 952; RFC 1123, section
                                         2.1), and no wildcard of such names */
-    DNW_CHECK_SERVER_IS_ALIAS = 13,  /* the name that an NS, MX or SRV record has is the owner of a CNAME record, `other` (RFC
-                                        2181, section 10.3; RFC 2782) */
-    DNW_CHECK_NO_ADDRESS = 14        /* that name is in the zone, and neither it nor the wildcard beside it has an A or AAAA
-                                        record; an MX or SRV record may name what is at a delegation or below one */
+    DNW_CHECK_SERVER_IS_ALIAS = 13,  /* the name that an NS, MX or SRV record has is an alias, by a CNAME record, also of a
+                                        wildcard, or a DNAME record above it, `other` (RFC 2181, section 10.3; RFC 2782) */
+    DNW_CHECK_NO_ADDRESS = 14,       /* the name that an NS record has is in the zone, and neither it nor, if it does not exist,
+                                        a wildcard that stands for it (RFC 4592) has an A or AAAA record. Of names of
+                                        delegations the delegation's own are meant, and no wildcard (RFC 9471, section 3.1) */
+    DNW_CHECK_NS_AND_DNAME = 15,     /* a DNAME record not at the apex is beside NS records, `other` is the first (RFC 6672,
+                                        section 2.3) */
+    DNW_CHECK_WILDCARD_NS = 16,      /* the owner of an NS record is a wildcard (RFC 4592, section 4.2) */
+    DNW_CHECK_DIGEST_LENGTH = 17,    /* the digest of a DS, CDS or ZONEMD record has not the length of its type (RFC 4034,
+                                        section 5.1.3; RFC 8976, section 2.2.4) */
+    DNW_CHECK_CAA_TAG = 18,          /* the tag of a CAA record is empty, cut, or has other octets than letters and digits (RFC
+                                        8659, section 4.1) */
+    DNW_CHECK_SERVER_IS_ADDRESS = 19, /* the name that an NS, MX or SRV record has is the text of an IPv4 address, alone or
+                                        before the name of the zone */
+    DNW_CHECK_NO_SIBLING_GLUE = 20,  /* the name that an NS record has is of another delegation of the zone, and has no address
+                                        (RFC 9471, section 3.2) */
+    DNW_CHECK_NO_SERVER_ADDRESS = 21 /* the name that an MX or SRV record has is in the zone, at no delegation nor below one, and
+                                        has no address */
 };
 
 /* A finding of dnw_zone_check. */
@@ -1002,15 +1030,22 @@ enum dnw_list_item {
     DNW_LIST_AUTHORITY = 2,
     DNW_LIST_ADDITIONAL = 3,
     DNW_LIST_REQUIRED = 0x20, /* a record that is not left out without TC, whatever the RFCs say */
-    DNW_LIST_LAST = 0x40,     /* with DNW_LIST_ADDITIONAL: an item that is never left out */
     DNW_LIST_OPTIONAL = 0x80  /* a record that may be left out without TC, whatever the RFCs say */
 };
 
 /* Writes a message of a list of items, in at most `max_size` octets and `message_size`, and stores it. An item is an octet
    of enum dnw_list_item, the wire form of a name, two octets of type and two of class, and for a record four of TTL, two of
-   the length of its data, and the data as for dnw_writer_record. The items are in the order of the sections. Those
-   with DNW_LIST_LAST are the last of the list: an OPT record (whose class is the payload size and whose TTL has the high
-   bits of the response code, the version and DO), then TSIG or SIG(0). Their octets are held back from the start.
+   the length of its data, and the data as for dnw_writer_record. The items are in the order of the sections.
+
+   Wherever they stand among the additional records, an OPT record and then a signature come last in the message, and are never
+   left out: their octets are held back from the start. A message has one of each at most (RFC 6891, section 6.1.1; RFC 8945,
+   section 5.1; RFC 2931, section 3); which records sign it, dnw_message_pack says. The class of the OPT record is the payload
+   size, and its TTL has the version and DO (RFC 6891, section 6.1.3).
+
+   The header has the low four bits of `response_code` in place of those of `flags`, and the OPT record the high eight in
+   place of those of its TTL. A code above 15 needs an OPT record, and none is above 4095. If `is_reply` is set, the
+   message replies to a request: with FORMERR, NOTIMP or BADVERS, so that dnw_edns.takes_records is clear, it is whole
+   without records, and those of the list are left out, but for what comes last.
 
    Successive records with the same octet, owner (ignoring case), type and class are a set, and are written whole or not at
    all (RFC 2181, section 5); the RRSIG records after a set of NS records that cover it are of the set. If a set does not
@@ -1030,16 +1065,18 @@ enum dnw_list_item {
    records of a set may stand apart. It is not for an RRSIG, or if the same record is there, too. At most 4096 pairs of records are compared for that in a section; if there are more, TC
    is set.
 
-   If `block` is not 0, an OPT record among the last items, owned by the root, gets the option for padding, as dnw_writer_edns
-   adds it: the message, with the items after that record, is a multiple of `block` octets.
+   If `block` is not 0, the OPT record gets the option for padding, as dnw_writer_edns adds it: the message, with its signature,
+   is a multiple of `block` octets.
 
-   It fails with DNW_BAD_ITEM if the list is not one of items in this order; with DNW_NO_ROOM if `message_size` is less
-   than DNW_HEADER_SIZE; with DNW_MESSAGE_TOO_LONG if the header, a question or an item with DNW_LIST_LAST does not fit, or
-   any record of a message that is never cut; and with DNW_BAD_DATA if the data of a record are not those of its type, or with DNW_DUPLICATE_EDNS if it is a second
-   OPT record, unless it is left out since an earlier set of its section was. Then `result` is unchanged, and the buffer
-   may hold anything. */
+   It fails with DNW_BAD_ITEM if the list is not one of items in this order, has a second signature, or has no OPT record for
+   the response code; with DNW_DUPLICATE_EDNS if it has a second OPT record; with DNW_NO_ROOM if `message_size` is less than
+   DNW_HEADER_SIZE; with DNW_MESSAGE_TOO_LONG if the header, a question or what comes last does not fit, or any record of a
+   message that is never cut; with DNW_BAD_DATA if the data of a record are not those of its type, unless it is left out since
+   an earlier set of its section was; and with DNW_OWNER_NOT_ROOT or DNW_CUT_OPTION if those of the OPT record are not. Then
+   `result` is unchanged, and the buffer may hold anything. */
 uint32_t dnw_message_write(const uint8_t *items, size_t items_len, size_t max_size, uint16_t id, uint16_t flags,
-                           uint16_t block, uint8_t *message, size_t message_size, struct dnw_packed *result);
+                           uint16_t response_code, bool is_reply, uint16_t block, uint8_t *message, size_t message_size,
+                           struct dnw_packed *result);
 
 /* Stores the wire form of the reverse name of an address, which owns its PTR records, and its length in `len`. The
    address is 4 bytes for IPv4 (RFC 1035, section 3.5) or 16 for IPv6 (RFC 3596, section 2.5), as in struct in_addr and

@@ -137,7 +137,7 @@ static void message_pack(void)
 {
     uint8_t packed[512];
     struct dnw_packed result;
-    must(dnw_message_pack(RESPONSE, RESPONSE_LEN, sizeof packed, packed, sizeof packed, &result));
+    must(dnw_message_pack(RESPONSE, RESPONSE_LEN, sizeof packed, 0, packed, sizeof packed, &result));
     sum += result.len;
 }
 

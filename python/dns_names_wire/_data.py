@@ -108,7 +108,8 @@ def data_of(record_type: int, kinds: Tuple[int, ...], values: List[FieldValue], 
 
 
 def data_from_text(record_type: "TypeLike", text: Union[str, bytes], origin: Optional[Name] = None) -> "Data":
-    """Parses data of a type in class IN from their text in master files. The origin is appended to names without a last dot.
+    """Parses data of a type in class IN from their text in master files, which may have comments and parentheses. The origin is
+    appended to names without a last dot.
     A string may have any octets as they are, so the text may be octets too; a `str` is taken in UTF-8.
 
     Raises `BadData` if the text is not data of the type, and `IllegalCharacter` if a name in a `str` has a character that is not

@@ -160,9 +160,11 @@ class Zone(ctypes.Structure):
         ("column", c_size_t),
         ("default_ttl", c_uint32),
         ("last_ttl", c_uint32),
+        ("fallback_ttl", c_uint32),
         ("record_class", c_uint16),
         ("has_default_ttl", c_uint8),
         ("has_last_ttl", c_uint8),
+        ("has_fallback_ttl", c_uint8),
         ("origin_len", c_uint8),
         ("owner_len", c_uint8),
         ("origin", c_uint8 * FORM_SIZE),
@@ -210,7 +212,9 @@ _FUNCTIONS = {
     "dnw_option_print": (c_uint16, *_READ, *_WRITTEN, POINTER(c_size_t)),
     "dnw_message_table": (*_READ, c_size_t, *_WRITTEN, *_WRITTEN, POINTER(Table)),
     "dnw_record_data": (*_READ, c_size_t, *_WRITTEN, POINTER(c_size_t)),
-    "dnw_message_write": (*_READ, c_size_t, c_uint16, c_uint16, c_uint16, *_WRITTEN, POINTER(Packed)),
+    "dnw_message_write": (
+        *_READ, c_size_t, c_uint16, c_uint16, c_uint16, c_bool, c_uint16, *_WRITTEN, POINTER(Packed),
+    ),  # fmt: skip
     "dnw_writer_begin": (*_WRITTEN, c_size_t, c_uint16, c_uint16, POINTER(Writer)),
     "dnw_writer_query": (
         *_WRITTEN, c_size_t, c_uint16, c_bool, *_READ, c_uint16, c_uint16, c_uint16, POINTER(Writer),
@@ -226,7 +230,7 @@ _FUNCTIONS = {
         *_WRITTEN, c_size_t, c_uint16, c_uint8, c_uint8, c_bool, *_READ, c_uint16, POINTER(Writer),
     ),
     "dnw_writer_last": (*_WRITTEN, c_size_t, *_READ, c_uint16, c_uint16, c_uint32, *_READ, POINTER(Writer)),
-    "dnw_message_pack": (*_READ, c_uint16, *_WRITTEN, POINTER(Packed)),
+    "dnw_message_pack": (*_READ, c_uint16, c_uint16, *_WRITTEN, POINTER(Packed)),
     "dnw_data_parse": (c_uint16, c_uint16, *_READ, *_READ, *_WRITTEN, POINTER(c_size_t)),
     "dnw_record_parse": (*_READ, *_READ, *_WRITTEN, POINTER(c_size_t)),
     "dnw_record_text_fault": (*_READ, *_READ, POINTER(TextFault)),

@@ -44,13 +44,11 @@ _HEADER = struct.Struct("!HHHHHH")
 _head_of: Any = struct.Struct("!HH").unpack_from
 _HEADER_SIZE = 12
 # The first octets of the items of a list, by enum dnw_list_item in dns_names_wire.h.
-ANSWER_ITEM, _AUTHORITY, _ADDITIONAL, _REQUIRED, _LAST = b"\1", b"\2", b"\3", b"\x23", b"\x43"
-# The type that a SIG covers if it signs a message, and not records: it is a SIG(0) then (RFC 2931, section 3).
-_NO_TYPE = b"\0\0"
+ANSWER_ITEM, _AUTHORITY, _ADDITIONAL, _REQUIRED = b"\1", b"\2", b"\3", b"\x23"
 _MOST = 65535
 _MAX_POINTERS = 65536
 _MOST_ITEMS = ROOM_SIZE - _HEADER_SIZE
-_message_write = by_address("dnw_message_write", 9)
+_message_write = by_address("dnw_message_write", 11)
 _writer_query = by_address("dnw_writer_query", 11)
 _writer_reply = by_address("dnw_writer_reply", 9)
 _MOST_POINTERS = 2**64 - 1
@@ -263,9 +261,9 @@ class Message:
         *,
         required: Iterable[Record] = (),
     ) -> "Message":
-        """Makes a message. The EDNS fields become the last record of the Additional section. A response code above 15
-        needs EDNS, so the message then always has an OPT record (RFC 6891, section 6.1.3). `required` is records of the
-        Additional section, before the others, that are not left out without TC. Glue below a cut never is (RFC 9471).
+        """Makes a message. The EDNS fields become the last record of the Additional section but a signature. `required` is
+        records of the Additional section, before the others, that are not left out without TC. Glue below a cut never is
+        (RFC 9471). `to_wire` raises `BadItem` if the response code is above 15 without EDNS (RFC 6891, section 6.1.3).
 
         Raises `ValueError` if a section has more than 65535 items or a number is out of bounds, `DataTooLong` if the
         options have more than 65535 octets, and `MessageTooLong` if no message has room for them.
@@ -276,8 +274,6 @@ class Message:
         '000780000000000100000000016100000f00010000003c0009000a046d61696cc00c'
         """
         code = _checks.number("response_code", header.response_code, 4095)
-        if edns is None and code > 15:
-            edns = Edns()
         number, asked = _checks.number("id", header.id, _MOST), tuple(questions)
         sections = tuple(answers), tuple(authorities), tuple(required), tuple(additionals)
         last = () if edns is None else (edns,)
@@ -286,7 +282,8 @@ class Message:
         items = b"".join([b"\0" + question.to_wire() for question in asked])
         own = None if edns is None else edns._record(code)
         made = _new_made(_Made)
-        made._head, made._asked, made._opt, made._questions = (number, header._flags()), items, own, asked
+        made._head, made._code, made._is_reply = (number, header._flags()), code, False
+        made._asked, made._opt, made._questions = items, own, asked
         made._answers, made._authorities, made._required, made._others = sections
         return made
 
@@ -321,7 +318,8 @@ class Message:
         head: Any = room.octets[: room.writer.len]
         give_back(room)
         made = _new_made(_Made)
-        made._head, made._asked, made._questions = _head_of(head), b"\0" + head[12:], (question,)
+        made._head, made._code, made._is_reply = _head_of(head), 0, False
+        made._asked, made._questions = b"\0" + head[12:], (question,)
         made._opt = None if edns is None else edns._record(0)
         made._answers = made._authorities = made._required = made._others = ()
         return made
@@ -373,20 +371,16 @@ class Message:
             check(failure)
         head: Any = room.octets[: room.writer.len]
         asked, opt = room.edns, None
-        takes_records = asked.takes_records
+        takes_records, code = asked.takes_records, asked.response_code
         if asked.is_present:
-            code = asked.response_code
             opt = (edns_of_reply(asked.dnssec_ok) if edns is None else edns)._record(code)
         give_back(room)
         made = _new_made(_Made)
-        made._head, made._asked, made._opt = _head_of(head), b"\0" + head[12:] if len(head) > 12 else b"", opt
-        if takes_records:
-            made._answers, made._authorities = tuple(answers), tuple(authorities)
-            made._required, made._others = tuple(required), tuple(additionals)
-        else:
-            made._answers = made._authorities = made._required = ()
-            made._others = tuple(filter(_is_last, additionals))
-        return made
+        made._head, made._code, made._is_reply, made._opt = _head_of(head), code, True, opt
+        made._asked = b"\0" + head[12:] if len(head) > 12 else b""
+        made._answers, made._authorities = tuple(answers), tuple(authorities)
+        made._required, made._others = tuple(required), tuple(additionals)
+        return made if takes_records else Message.from_wire(made.wire)
 
     def is_reply_to(self, request: "Message") -> bool:
         """Returns whether this is a response with the id, the operation code and the question of a request, which is no
@@ -409,14 +403,14 @@ class Message:
         is set if one is left out that the receiver needs (section 9): an answer; a record of the Authority section, but for
         NS of a zone that has the answer; or glue below a cut; and if a part of a set is there. The questions and the OPT
         record are never left out; nor is a TSIG or SIG(0), which comes last. Nothing is left out of a request, or of a
-        transfer.
+        transfer. A reply with FORMERR, NOTIMP or BADVERS is whole without other records, and has none.
 
-        If `block` is not 0, a message that was made, with EDNS, is padded to a multiple of so many octets, or of 512 if it is
-        more (RFC 7830; RFC 8467); but not if there is no room for that.
+        If `block` is not 0, a message with EDNS is padded to a multiple of so many octets, or of 512 if it is more (RFC 7830;
+        RFC 8467); but not if there is no room for that, or if it was read with padding.
 
-        Raises `ValueError` if a message that was read is to be padded; `BadData` or as `Record.fields` if the data of a record are
-        not valid, as `edns` if there is an OPT record in
-        `additionals`, and `MessageTooLong` if what is never left out has more than `max_size` octets.
+        Raises `BadData` or as `Record.fields` if the data of a record are not valid; as `edns` if `additionals` has an OPT
+        record that is not valid, or a second one; `BadItem` if it has two signatures, or if the response code is above 15
+        without EDNS; and `MessageTooLong` if what is never left out has more than `max_size` octets.
 
         >>> record = Record.from_text("a. 60 IN TXT " + " ".join(["abcdefgh"] * 100))
         >>> reply = Message.query("a.", RecordType.TXT, id=7).reply([record])
@@ -591,20 +585,21 @@ class _Read(Message):
         return self._max_pointers
 
     def to_wire(self, max_size: int = 512, *, block: int = 0) -> bytes:
-        if block:
-            raise ValueError("only a message that was made is padded")
         most, wire, packed = _checks.number("max_size", max_size, _MOST), self._wire, Packed()
+        block = _checks.number("block", block, _MOST)
         # The room is a limit too: what has none in it is left out.
         room = room_of(most)
-        check(library.dnw_message_pack(wire, len(wire), most, room, len(room), byref(packed)))
+        check(library.dnw_message_pack(wire, len(wire), most, block, room, len(room), byref(packed)))
         return taken(room, packed.len)
 
 
 class _Made(Message):
     """A message that was made. `_asked` is its questions, as items of the list that is written."""
 
-    __slots__ = ("_asked", "_answers", "_authorities", "_required", "_others", "_opt", "_questions", "_wire")
+    __slots__ = ("_code", "_is_reply", "_asked", "_answers", "_authorities", "_required", "_others", "_opt", "_questions", "_wire")
 
+    _code: int
+    _is_reply: bool
     _asked: bytes
     _answers: Tuple[Record, ...]
     _authorities: Tuple[Record, ...]
@@ -662,18 +657,12 @@ class _Made(Message):
         for record in self._required:
             add(_REQUIRED)
             add(record._message if record._is_whole else record.to_wire())
-        others = self._others
-        for record in others:
-            if not _is_last(record):
-                add(_ADDITIONAL)
-                add(record._message if record._is_whole else record.to_wire())
+        for record in self._others:
+            add(_ADDITIONAL)
+            add(record._message if record._is_whole else record.to_wire())
         if self._opt is not None:
-            add(_LAST)
+            add(_ADDITIONAL)
             add(self._opt)
-        last = [record for record in others if _is_last(record)] if others else []
-        for record in sorted(last, key=_is_signature):
-            add(_LAST)
-            add(record.to_wire())
         items = b"".join(parts)
         size = len(items)
         try:
@@ -686,26 +675,12 @@ class _Made(Message):
         if most > _MOST_ITEMS < max_size:
             octets = room_of(min(_HEADER_SIZE + most, max_size))
             place, has = addressof(octets), len(octets)
-        failure = _message_write(items, size, max_size, *self._head, block, place, has, room.packed_at)
+        failure = _message_write(items, size, max_size, *self._head, self._code, self._is_reply, block, place, has, room.packed_at)
         if failure:
             check(failure)
         wire: Any = octets[: room.packed.len]
         give_back(room)
-        if last:
-            # There may be more than one OPT record.
-            check(library.dnw_edns_read(wire, len(wire), _MAX_POINTERS, byref(ReadEdns())))
         return wire  # type: ignore[no-any-return]
-
-
-def _is_last(record: Record) -> bool:
-    """Returns whether a record is one of the last of a message, which are never left out: OPT, and then a signature."""
-    return record._type == RecordType.OPT or _is_signature(record)
-
-
-def _is_signature(record: Record) -> bool:
-    """Returns whether a record is the signature of a message: TSIG (RFC 8945, section 5.1) or SIG(0)."""
-    kind = record._type
-    return kind == RecordType.TSIG or (kind == RecordType.SIG and record.raw_data[:2] == _NO_TYPE)
 
 
 def _parts_of(table: Table) -> _Parts:

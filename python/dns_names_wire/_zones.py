@@ -103,6 +103,17 @@ class _File:
         return status.st_dev, status.st_ino
 
 
+class _Kept:
+    """A stream of the caller's, which stays open."""
+
+    def __init__(self, stream: BinaryIO) -> None:
+        self.readinto = stream.readinto  # type: ignore[attr-defined]
+        self.fileno = stream.fileno
+
+    def close(self) -> None:
+        pass
+
+
 def _sentence(entry: ZoneEntry) -> str:
     """Returns what is wrong by an entry, without its offset."""
     room, length = SentenceText(), c_size_t()
@@ -204,19 +215,23 @@ class _Reader:
 
 
 def read_zone(
-    source: Union[Path, Bytes],
+    source: Union[Path, Bytes, BinaryIO],
     origin: NameLike,
     *,
+    default_ttl: Optional[int] = None,
     folder: Optional[Path] = None,
     errors: Optional[Callable[[ZoneError], object]] = None,
 ) -> Iterator[Record]:
-    """Returns an iterator over the records of a zone file (RFC 1035, section 5; RFC 2308, section 4), which is a path, or its octets.
+    """Returns an iterator over the records of a zone file (RFC 1035, section 5; RFC 2308, section 4), which is a path, its octets,
+    or a binary file that is open, as `sys.stdin.buffer` or what `gzip.open` returns.
 
     The origin is the name of the zone, which completes names without a last dot. What an entry leaves out, the owner, the TTL or
-    the class, is that of an entry before it. A file is read in parts, so that its size makes no difference to the memory.
+    the class, is that of an entry before it. Without a TTL before it, an SOA has its minimum, and so has what follows it; any other
+    record has `default_ttl`, or is not valid. A file is read in parts, so that its size makes no difference to the memory. One that
+    was open is not closed.
 
     `$INCLUDE` is followed, up to ten files deep, and never into a file that is open already. Its file is looked for in the folder
-    of the file that includes it. Of octets, `folder` is that folder; without it, they include no file.
+    of the file that includes it. Of octets and of an open file, `folder` is that folder; without it, they include no file.
 
     Raises `ZoneError` at the first entry that is not valid. With `errors`, that is called with each error instead, and reading
     goes on at the next entry. Raises `OSError` if the file cannot be read.
@@ -230,9 +245,13 @@ def read_zone(
     """
     zone, wire = Zone(), whole_name("origin", origin).wire
     check(library.dnw_zone_begin(wire, len(wire), byref(zone)))
+    if default_ttl is not None:
+        zone.fallback_ttl, zone.has_fallback_ttl = _checks.number("default_ttl", default_ttl, 2**31 - 1), 1
     if isinstance(source, (str, os.PathLike)):
         path = os.fspath(source)
         name, within, stream = path, os.path.dirname(path), open(path, "rb", buffering=0)  # type: Tuple[str, Optional[str], BinaryIO]
+    elif hasattr(source, "readinto"):
+        name, within, stream = str(getattr(source, "name", "<stream>")), None, _Kept(source)  # type: ignore[arg-type, assignment]
     else:
         name, within, stream = "<bytes>", None, io.BytesIO(_checks.octets("source", source))
     return _records(_File(stream, name, within if folder is None else os.fspath(folder), zone), _Reader(errors))
@@ -298,7 +317,10 @@ _REASONS = (
     "the owner of a CNAME record has other data", "a DS record is not at a delegation",
     "the owner is below that of a DNAME record", "the owner is below a delegation, and the record is no address",
     "the owner is no name that hosts have", "the name of a server is an alias",
-    "the name of a server has no address in the zone",
+    "the name of a server has no address in the zone", "a DNAME record is beside NS records", "the owner of an NS record is a wildcard",
+    "the digest does not have the length of its type", "the tag has other octets than letters and digits, or none",
+    "the name of a server is the text of an address", "the name of a server, of another delegation, has no address in the zone",
+    "the name of a host has no address in the zone",
 )
 
 

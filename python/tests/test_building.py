@@ -163,7 +163,7 @@ class Messages(unittest.TestCase):
 
     def test_headers_and_edns_are_written(self):
         every = Header(65535, True, dnw.OpCode(15), True, True, True, True, True, True, ResponseCode(4095))
-        built = Message.build(every)
+        built = Message.build(every, edns=Edns())
         self.assertEqual(built.to_wire().hex(), "ffffffbf0000000000000001" + "00002904d0ff0000000000")
         self.assertEqual((built.response_code, built.header.response_code), (4095, 15))
         self.assertEqual(Message.from_wire(built.to_wire()).header, built.header)
@@ -219,6 +219,17 @@ class Messages(unittest.TestCase):
         response = Header(is_response=True)
         three = Message.from_wire(Message.build(additionals=[signed, other, opt]).to_wire(65535))
         self.assertEqual(three.additionals, (other, Record(".", 0, dnw.Unknown(41, b""), 512), signed))
+        # a message has one signature (RFC 8945, section 5.1; RFC 2931, section 3), and a code above 15 needs EDNS
+        for two in ([key, key], [key, signed], [signed, signed]):
+            self.assertRaises(dnw.BadItem, Message.build(additionals=two).to_wire)
+        for code in (15, 16, 23, 4095):
+            made = [Message.build(Header(response_code=code), edns=edns) for edns in (None, Edns())]
+            self.assertEqual(Message.from_wire(made[1].to_wire()).response_code, code)
+            if code > 15:
+                self.assertRaises(dnw.BadItem, made[0].to_wire)
+        cut = Record(Name("."), 0, dnw.Unknown(41, b"\0\7"), 512)
+        self.assertRaises(dnw.CutOption, Message.build(additionals=[cut]).to_wire)
+        self.assertRaises(dnw.OwnerNotRoot, Message.build(additionals=[Record(Name("a."), 0, opt.data, 512)]).to_wire)
         for last in (key, signed):
             made = Message.build(response, additionals=[*ADDITIONALS, other, last])
             one = Message.from_wire(made.to_wire(12 + len(last.to_wire())))
@@ -285,9 +296,9 @@ class Records(unittest.TestCase):
             ("a. 1 IN MX 1 a", dnw.BadData, 13, "wanted a name (field 1)"),
             ("\u00e4. 1 IN MX 1 a", dnw.BadData, 13, "wanted a name (field 1)"),
             ("a. 1 IN TYPE65280 01", dnw.BadData, 18, "wanted the form of any data, which begins with \\# (field 0)"),
-            ("a. 1 IN TXT ( b", dnw.UnclosedList, 15, "the text ends within parentheses"),
+            ("a. 1 IN TXT ( b", dnw.UnclosedList, 12, "the text ends within parentheses"),
             ("a. 1 IN TXT b )", dnw.IllegalCharacter, 14, "no parenthesis is open"),
-            ('a. 1 IN TXT "b', dnw.UnclosedQuote, 14, "the line ends within a quoted string"),
+            ('a. 1 IN TXT "b', dnw.UnclosedQuote, 12, "the line ends within a quoted string"),
             ("a. 1 IN TXT b\\", dnw.TextCut, 14, "the line ends after a backslash"),
             ("a. 1 IN TXT b\nb. 60 TXT c", dnw.BadData, 13, "another entry is there"),
             ("a. 1 IN TXT \ud800", dnw.NotUtf8, 12, "the text is not UTF-8"),

@@ -413,8 +413,22 @@ class Lists(unittest.TestCase):
                 least = len(reply.to_wire(1300))
                 self.assertEqual(len(reply.to_wire(least, block=block)), least)
         self.assertEqual(make_query("a.", "A", id=7).to_wire(block=128), make_query("a.", "A", id=7).to_wire())
+
+    def test_messages_that_were_read_are_padded(self) -> None:
+        key = Record(QUESTION.name, 0, KEY.data, RecordClass.ANY)
+        query = make_query(QUESTION.name, "A", id=7, payload=1232)
+        for block in [1, 32, 128, 468, 512, 600]:
+            for others in [[], [key]]:
+                reply = query.reply([Record(QUESTION.name, 60, A("192.0.2.1"))], [], others)
+                read, padded = Message.from_wire(reply.to_wire(1300)), reply.to_wire(1300, block=block)
+                self.assertEqual(read.to_wire(1300, block=block), padded)
+                # without room, and with padding already (RFC 7830, section 3), it is not
+                self.assertEqual(read.to_wire(len(read.wire), block=block), read.wire)
+                self.assertEqual(Message.from_wire(padded).to_wire(1300, block=468), padded)
+        plain = Message.from_wire(make_query("a.", "A", id=7).to_wire())
+        self.assertEqual(plain.to_wire(block=128), plain.wire)
         with self.assertRaises(ValueError):
-            Message.from_wire(query.to_wire()).to_wire(block=128)
+            plain.to_wire(block=65536)
 
     def test_a_transfer_is_split(self) -> None:
         soa = Record.from_text("a. 60 SOA a. a. 1 2 3 4 5")

@@ -1,5 +1,7 @@
 """Zone files: what RFC 1035, section 5, says of them, errors with their places, files that include others, and dnspython's records."""
 
+import gzip
+import io
 import os
 import pathlib
 import random
@@ -94,12 +96,27 @@ class Zones(unittest.TestCase):
         found = []
         zone = b"x A 1.2.3.4\n$TTL 1\nb A 1.2.3\na A 1.2.3.4\n TXT \"\n$FOO\n A 1.2.3.5"
         self.assertEqual(lines(zone, "o.", errors=found.append), ["a.o. 1 IN A 1.2.3.4", "a.o. 1 IN A 1.2.3.5"])
-        self.assertEqual([(error.line, error.column) for error in found], [(1, 3), (3, 5), (5, 7), (6, 1)])
+        self.assertEqual([(error.line, error.column) for error in found], [(1, 3), (3, 5), (5, 6), (6, 1)])
         self.assertRaises(ZeroDivisionError, lines, zone, "o.", errors=lambda error: 1 // 0)
+
+    def test_times_to_live(self):
+        # as named-checkzone and dnspython
+        zone = b"@ SOA ns h 1 2 3 4 300\n@ NS ns\nns 60 A 192.0.2.1\nb A 192.0.2.2\n"
+        self.assertEqual([it.ttl for it in read_zone(zone, "o.")], [300, 300, 60, 300])
+        self.assertEqual([it.ttl for it in read_zone(b"a A 192.0.2.1\nb 7 A 192.0.2.1\nc A 192.0.2.1", "o.", default_ttl=9)], [9, 7, 7])
+        self.assertEqual(error_of(b"a 2147483648 A 192.0.2.1").reason, "the time is too large")
+        self.assertRaises(ValueError, read_zone, b"", ".", default_ttl=2**31)
+
+    def test_open_files(self):
+        zone = b"$TTL 1\na A 192.0.2.1\n" * 5000
+        stream = gzip.GzipFile(fileobj=io.BytesIO(gzip.compress(zone)))
+        self.assertEqual(sum(1 for _ in read_zone(stream, "o.")), 5000)
+        self.assertFalse(stream.closed)
+        self.assertRaisesRegex(ZoneError, "<stream>:1:3: ", list, read_zone(io.BytesIO(b"a B"), "o."))
 
     def test_hostile_octets(self):
         for zone, reason in {
-            b"(" * 10**6: "a parenthesis is opened within parentheses",
+            b"(" * 10**6: "more than 255 parentheses are open",
             b"(" + b"\n" * 10**6: "the text ends within parentheses",
             b")" * 10**6: "no parenthesis is open",
             b'"' + b"a" * 10**6: "the line ends within a quoted string",
@@ -292,6 +309,39 @@ class Checks(unittest.TestCase):
         ]  # fmt: skip
         self.assertEqual(found, wanted)
         self.assertEqual(str(check_zone(zone, "a.")[1]), f"error: the owner of a CNAME record has other data: {zone[4]}; {zone[5]}")
+
+    SERVED = [
+        "a. 60 SOA ns.a. h.a. 1 2 3 4 5",
+        "A. 60 SOA NS.a. h.A. 1 2 3 4 5",
+        "a. 60 NS ns.a.",
+        "a. 60 MX 1 192.0.2.9.",
+        "a. 60 MX 1 any.deep.w.a.",
+        "a. 60 MX 1 w.a.",
+        "c.a. 60 CAA \\# 6 0003612d6278",
+        "d.a. 60 DNAME b.",
+        "d.a. 60 NS ns.a.",
+        "ns.a. 60 A 192.0.2.1",
+        "s.a. 60 NS ns.t.a.",
+        "s.a. 60 DS 1 13 2 aa",
+        "t.a. 60 NS ns.t.a.",
+        "*.w.a. 60 A 192.0.2.2",
+        "*.x.a. 60 NS ns.a.",
+    ]
+
+    def test_servers_and_data(self):
+        zone = [Record.from_text(line) for line in self.SERVED]
+        found = [(it.check, it.is_error, zone.index(it.record), it.other and zone.index(it.other)) for it in check_zone(zone, "a.")]
+        wanted = [
+            (19, False, 3, None),
+            (21, False, 5, None),
+            (18, True, 6, None),
+            (15, True, 7, 8),
+            (20, False, 10, None),
+            (17, True, 11, None),
+            (14, True, 12, None),
+            (16, False, 14, None),
+        ]
+        self.assertEqual(found, wanted)
 
     def test_no_records(self):
         found = check_zone([], "a.")

@@ -21,8 +21,7 @@ const AUTHORITIES: u8 = 2;
 const ADDITIONALS: u8 = 3;
 const SECTIONS: usize = 4;
 
-/// What is joined to the section of an item in the list of `dnw_message_write`: it is last, or required or optional.
-const LAST: u8 = 0x40;
+/// What is joined to the section of an item in the list of `dnw_message_write`: it is required or optional.
 const REQUIRED: u8 = 0x20;
 const OPTIONAL: u8 = 0x80;
 
@@ -32,8 +31,6 @@ const USUAL_SIZE: usize = 512;
 const REPLY_SIZE: usize = HEADER_SIZE + ffi::FORM_SIZE + 4;
 /// The largest message that a reply accepts, in octets. It goes through most networks without fragmentation.
 pub(crate) const USUAL_PAYLOAD: u16 = 1232;
-/// The greatest response code that fits in a header.
-const MOST_IN_HEADER: u16 = 15;
 
 /// Builds a message: a query, or a reply to one. Sections may be filled in any order.
 /// [`finish`](MessageBuilder::finish) writes the message: compressed, within a size, with its counts, and with TC if
@@ -71,17 +68,15 @@ const MOST_IN_HEADER: u16 = 15;
 #[derive(Clone)]
 pub struct MessageBuilder {
     header: Header,
-    /// The list of items that `dnw_message_write` takes, but for those that are last.
+    /// The list of items that `dnw_message_write` takes, but for the OPT record.
     items: Vec<u8>,
     /// The offset at which each section ends.
     ends: [usize; SECTIONS],
     edns: Option<Opt>,
     /// Whether it may have EDNS: a reply does if its request has.
     takes_edns: bool,
-    /// How a reply began: its response code, and whether it takes records with that.
-    begun: Option<(ResponseCode, bool)>,
-    /// The last record.
-    last: Option<RecordBuf>,
+    /// The response code with which a reply began.
+    begun: Option<ResponseCode>,
     /// The message is padded to a multiple of so many octets, if they are not 0.
     block: u16,
     /// Why there is no such reply.
@@ -114,7 +109,6 @@ impl MessageBuilder {
             edns: None,
             takes_edns: true,
             begun: None,
-            last: None,
             block: 0,
             failure: None,
         }
@@ -150,8 +144,7 @@ impl MessageBuilder {
     /// [`MessageWriter::reply_to`]: crate::MessageWriter::reply_to
     ///
     /// The response code is `NoError`, or what [`response_code`](MessageBuilder::response_code) says. If the request is not
-    /// one to answer, it is `BADVERS` or `FormErr`, whatever that says. A reply with one of these codes, or `NotImp`, is
-    /// whole without a record: those of the sections are left out. If the request is itself a response,
+    /// one to answer, it is `BADVERS` or `FormErr`, whatever that says. If the request is itself a response,
     /// [`finish`](MessageBuilder::finish) fails with `BadItem`.
     ///
     /// ```
@@ -175,7 +168,7 @@ impl MessageBuilder {
         let edns = writer.reply(&mut room, REPLY_SIZE, request.octets(), (0, 0))?;
         self.begin_as(&room[..writer.len]);
         self.header.response_code = edns.response_code.into();
-        self.begun = Some((self.header.response_code, edns.takes_records));
+        self.begun = Some(self.header.response_code);
         self.takes_edns = edns.is_present;
         if edns.is_present {
             let (max_payload, version, dnssec_ok) = (USUAL_PAYLOAD, 0, edns.dnssec_ok);
@@ -247,26 +240,27 @@ impl MessageBuilder {
         self
     }
 
-    /// Sets the response code. One above 15 needs EDNS, so the message then has an OPT record (RFC 6891, section
-    /// 6.1.3); a reply to a request without EDNS can't, and [`finish`](MessageBuilder::finish) fails with `BadItem`.
+    /// Sets the response code. One above 15 needs EDNS (RFC 6891, section 6.1.3): without,
+    /// [`finish`](MessageBuilder::finish) fails with `BadItem`.
     ///
     /// ```
-    /// use dns_names_wire::{Header, Message, MessageBuilder, ResponseCode};
+    /// use dns_names_wire::{Edns, Header, Message, MessageBuilder, ResponseCode};
     ///
-    /// let octets = MessageBuilder::new(Header::default()).response_code(ResponseCode::BADCOOKIE).finish(512)?;
+    /// let mut message = MessageBuilder::new(Header::default());
+    /// let octets = message.response_code(ResponseCode::BADCOOKIE).edns(&Edns::new(1232)).finish(512)?;
     /// assert_eq!(Message::read(&octets)?.response_code()?, ResponseCode::BADCOOKIE);
     /// # Ok::<(), dns_names_wire::Error>(())
     /// ```
     pub fn response_code(&mut self, code: ResponseCode) -> &mut Self {
         // No code was asked for when the reply began. If it has one, that is the only one it can have.
-        if self.begun.map_or(true, |(code, _)| code == ResponseCode::NoError) {
+        if self.begun.map_or(true, |code| code == ResponseCode::NoError) {
             self.header.response_code = code;
         }
         self
     }
 
-    /// Sets the EDNS fields, in place of those set before. `finish` writes the OPT record last. A reply has them only if its
-    /// request has EDNS (RFC 6891, section 7).
+    /// Sets the EDNS fields, in place of those set before. `finish` writes the OPT record after the others, before a signature.
+    /// A reply has them only if its request has EDNS (RFC 6891, section 7).
     ///
     /// ```
     /// use dns_names_wire::{Edns, Header, Message, MessageBuilder, Pairs};
@@ -421,14 +415,17 @@ impl MessageBuilder {
         self.all(AUTHORITIES, AUTHORITIES, records)
     }
 
-    /// Adds records to the Additional section.
+    /// Adds records to the Additional section. A signature, TSIG (RFC 8945, section 5.1) or SIG(0), becomes the last record of
+    /// the message, and is never left out.
     ///
     /// ```
-    /// use dns_names_wire::{Header, Message, MessageBuilder, RecordBuf};
+    /// use dns_names_wire::{Edns, Header, Message, MessageBuilder, RecordBuf};
     ///
+    /// let signature: RecordBuf = "a. 0 ANY TSIG \\# 19 00 00005F0F9043 012C 0002 491B DCC6 0000 0000".parse()?;
     /// let record: RecordBuf = "ns.a. 60 AAAA 2001:db8::1".parse()?;
-    /// let octets = MessageBuilder::new(Header::default()).additionals([&record]).finish(512)?;
-    /// assert_eq!(Message::read(&octets)?.additionals().len(), 1);
+    /// let mut message = MessageBuilder::new(Header::default());
+    /// let octets = message.additionals([&signature, &record]).edns(&Edns::new(1232)).finish(512)?;
+    /// assert_eq!(Message::read(&octets)?.additionals().last(), Some(signature.as_record()));
     /// # Ok::<(), dns_names_wire::Error>(())
     /// ```
     pub fn additionals<R: Borrow<RecordBuf>>(&mut self, records: impl IntoIterator<Item = R>) -> &mut Self {
@@ -484,22 +481,6 @@ impl MessageBuilder {
         self.records(section, need, set.records())
     }
 
-    /// Adds a record after all others, in place of the one that was set before: TSIG (RFC 8945, section 5.1) or SIG(0).
-    /// It is never left out.
-    ///
-    /// ```
-    /// use dns_names_wire::{Edns, Header, Message, MessageBuilder, RecordBuf};
-    ///
-    /// let record: RecordBuf = "a. 0 ANY TSIG \\# 19 00 00005F0F9043 012C 0002 491B DCC6 0000 0000".parse()?;
-    /// let octets = MessageBuilder::new(Header::default()).last(&record).edns(&Edns::new(1232)).finish(512)?;
-    /// assert_eq!(Message::read(&octets)?.additionals().last(), Some(record.as_record()));
-    /// # Ok::<(), dns_names_wire::Error>(())
-    /// ```
-    pub fn last(&mut self, record: &RecordBuf) -> &mut Self {
-        self.last = Some(record.clone());
-        self
-    }
-
     /// Returns the message in at most `max_size` octets: 512 over UDP without EDNS, what the requester accepts with
     /// EDNS, and 65535 over TCP.
     ///
@@ -508,14 +489,14 @@ impl MessageBuilder {
     /// of its section are left out. TC is set if one of them is required (RFC 2181, section 9): all answers are; all
     /// authorities, but for NS of a zone that has the answer; and the addresses of name servers below a cut (RFC 9471).
     /// [`records`](MessageBuilder::records) says otherwise. TC is also set if a part of a set is there, whose records stand
-    /// apart. The questions, the OPT record and the last record are never left out, and nothing is left out of a request, or
-    /// of a transfer.
+    /// apart. The questions, the OPT record and a signature are never left out, and nothing is left out of a request, or
+    /// of a transfer. A reply with the code `FormErr`, `NotImp` or `BADVERS` is whole without other records, and has none.
     ///
     /// # Errors
     ///
     /// `MessageTooLong` if there is no room for the header and for what is never left out; `BadData`
     /// if the data of a record are not those of its type; or `BadItem` if this is a reply to a response, if records were
-    /// added to no section of records, or if the response code is above 15 and the request has no EDNS.
+    /// added to no section of records, if there are two signatures, or if the response code is above 15 without EDNS.
     ///
     /// ```
     /// use dns_names_wire::{ErrorKind, Message, MessageBuilder, Name, RecordType, Texts, RData};
@@ -557,42 +538,12 @@ impl MessageBuilder {
             return Err(error);
         }
         let mut list = Room::new();
-        self.put_list(&mut list)?;
-        ffi::write_list(list.as_slice(), max_size, (self.header.id, self.header.flag_bits()), self.block, message)
-    }
-
-    /// Puts the whole list of items.
-    fn put_list(&self, list: &mut Room) -> Result<(), Error> {
-        let len = if self.takes_records()? { self.items.len() } else { self.ends[usize::from(QUESTIONS)] };
-        list.extend_from_slice(&self.items[..len]);
-        let code = u16::from(self.header.response_code);
-        match &self.edns {
-            Some(edns) if self.takes_edns => edns.put(code, list)?,
-            _ if code <= MOST_IN_HEADER => {}
-            _ if self.takes_edns => Opt::of(&Edns::new(USUAL_PAYLOAD)).put(code, list)?,
-            _ => return Err(ErrorKind::BadItem.into()),
+        list.extend_from_slice(&self.items);
+        if let Some(edns) = self.edns.as_ref().filter(|_| self.takes_edns) {
+            edns.put(&mut list)?;
         }
-        if let Some(record) = &self.last {
-            list.extend_from_slice(&[ADDITIONALS | LAST]);
-            list.extend_from_slice(record.as_wire());
-        }
-        Ok(())
-    }
-
-    /// Returns whether it takes records. With another response code than a reply began with, a message that has that and
-    /// no more says so.
-    fn takes_records(&self) -> Result<bool, Error> {
-        let code = self.header.response_code;
-        match self.begun {
-            None => Ok(true),
-            Some((begun, takes_records)) if begun == code => Ok(takes_records),
-            Some(_) => {
-                let (mut message, mut writer) = ([0; HEADER_SIZE + ffi::EDNS_SIZE], ffi::Writer::none());
-                writer.begin(&mut message, usize::MAX, (0, self.header.flag_bits()))?;
-                writer.edns(&mut message, (0, 0), (0, code.into(), 0, false), &[])?;
-                Ok(ffi::read_edns(&message, 0)?.takes_records)
-            }
-        }
+        let head = (self.header.id, self.header.flag_bits(), self.header.response_code.into());
+        ffi::write_list(list.as_slice(), max_size, head, (self.begun.is_some(), self.block), message)
     }
 
     fn data(&mut self, section: u8, name: NameRef<'_>, ttl: u32, data: &RData<'_>) -> Result<&mut Self, Error> {
@@ -650,8 +601,9 @@ impl Opt {
         }
     }
 
-    /// Appends the OPT record, which the library writes into a message without other items, as an item of the list.
-    fn put(&self, code: u16, list: &mut Room) -> Result<(), Error> {
+    /// Appends the OPT record, which the library writes into a message without other items, as an item of the list. The high
+    /// bits of the response code come with the message.
+    fn put(&self, list: &mut Room) -> Result<(), Error> {
         let (mut few, mut many) = ([0; HEADER_SIZE + ffi::EDNS_SIZE], Vec::new());
         let message = match self.options.len() {
             0 => &mut few[..],
@@ -662,8 +614,8 @@ impl Opt {
         };
         let mut writer = ffi::Writer::none();
         writer.begin(message, usize::MAX, (0, 0))?;
-        writer.edns(message, (0, 0), (self.max_payload, code, self.version, self.dnssec_ok), &self.options)?;
-        list.extend_from_slice(&[ADDITIONALS | LAST]);
+        writer.edns(message, (0, 0), (self.max_payload, 0, self.version, self.dnssec_ok), &self.options)?;
+        list.extend_from_slice(&[ADDITIONALS]);
         list.extend_from_slice(&message[HEADER_SIZE..writer.len]);
         Ok(())
     }

@@ -271,8 +271,27 @@ impl<'a> Message<'a> {
     /// # Ok::<(), dns_names_wire::Error>(())
     /// ```
     pub fn to_wire(&self, max_size: u16) -> Result<Vec<u8>, Error> {
+        self.to_padded_wire(max_size, 0)
+    }
+
+    /// Writes the message as [`to_wire`](Message::to_wire) does, padded to a multiple of `block` octets, or of 512 if it is
+    /// more, by an option of its OPT record (RFC 7830; RFC 8467). It is not padded if it has no EDNS or that option already,
+    /// or if there is no room.
+    ///
+    /// # Errors
+    ///
+    /// The errors of [`to_wire`](Message::to_wire).
+    ///
+    /// ```
+    /// use dns_names_wire::{Edns, Header, Message, MessageBuilder};
+    ///
+    /// let octets = MessageBuilder::new(Header::default()).edns(&Edns::new(1232)).finish(512)?;
+    /// assert_eq!(Message::read(&octets)?.to_padded_wire(512, 128)?.len(), 128);
+    /// # Ok::<(), dns_names_wire::Error>(())
+    /// ```
+    pub fn to_padded_wire(&self, max_size: u16, block: u16) -> Result<Vec<u8>, Error> {
         let mut packed = Vec::new();
-        ffi::pack(self.octets(), max_size, &mut packed)?;
+        ffi::pack(self.octets(), max_size, block, &mut packed)?;
         packed.shrink_to_fit();
         Ok(packed)
     }

@@ -66,6 +66,23 @@ impl<'a> ZoneReader<'a> {
         ZoneReader { text, entries: Entries::new(origin) }
     }
 
+    /// Sets the TTL of records for which the file states none: no TTL of their own, no `$TTL` and no TTL of a record before
+    /// them, and no SOA record, whose minimum stands for its own TTL (RFC 1035, section 5.1; RFC 2308, section 4). Without
+    /// it, such a record is an error. A TTL has at most 2147483647 seconds (RFC 2181, section 8).
+    ///
+    /// ```
+    /// use dns_names_wire::{ZoneItem, ZoneReader};
+    ///
+    /// let mut zone = ZoneReader::new(b"www A 192.0.2.1\n", &"example.".parse()?).default_ttl(3600);
+    /// let Some(ZoneItem::Record(record)) = zone.next().transpose()? else { panic!("the text has a record") };
+    /// assert_eq!(record.ttl(), 3600);
+    /// # Ok::<(), Box<dyn std::error::Error>>(())
+    /// ```
+    pub fn default_ttl(mut self, ttl: u32) -> Self {
+        self.entries.set_default_ttl(ttl);
+        self
+    }
+
     /// Returns an iterator over the entries of the file that the last item, an `$INCLUDE`, names. Its first entry may leave
     /// out what an entry may leave out here. This iterator goes on as if the file were not there (RFC 1035, section 5.1).
     ///
@@ -209,6 +226,11 @@ impl Entries {
     fn include(&self, origin: &Name) -> Self {
         let zone = ffi::include_zone(self.zone.clone(), origin.as_wire());
         Entries::with_state(zone.expect("a name has a wire form, and so have those of the state"))
+    }
+
+    /// Sets the TTL of records for which the file states none.
+    fn set_default_ttl(&mut self, ttl: u32) {
+        self.zone.set_fallback_ttl(ttl);
     }
 
     fn with_state(zone: ffi::Zone) -> Self {

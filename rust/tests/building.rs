@@ -370,13 +370,51 @@ fn sets_are_whole() {
     assert!(Message::read(&written).unwrap().answers().eq(records.iter().map(RecordBuf::as_record)));
 }
 
+/// Signatures come last wherever they stand, and a message has one at most (RFC 8945, section 5.1; RFC 2931, section 3). A SIG
+/// that covers a type is a record like others.
+#[test]
+fn signatures_come_last() {
+    let tsig = record("key. 0 ANY TSIG \\# 19 00 00005F0F9043 012C 0002 491B DCC6 0000 0000");
+    let sig = |covered| record(&format!(". 0 ANY SIG \\# 20 {covered} 08 00 00000000 00000002 00000001 0007 00 73"));
+    let (sig0, other, glue) = (sig("0000"), sig("0001"), record("a. 60 A 192.0.2.1"));
+    for signature in [&tsig, &sig0] {
+        for list in [[signature, &other, &glue], [&other, signature, &glue], [&other, &glue, signature]] {
+            let written = response("a.", RecordType::A).additionals(list).edns(&Edns::new(1232)).finish(512).unwrap();
+            let read = Message::read(&written).unwrap();
+            let opt = read.additionals().nth(2).unwrap();
+            assert_eq!(opt.record_type(), RecordType::OPT);
+            let wanted = [other.as_record(), glue.as_record(), opt, signature.as_record()];
+            assert!(read.additionals().eq(wanted));
+        }
+    }
+    for two in [[&tsig, &tsig], [&tsig, &sig0], [&sig0, &tsig], [&sig0, &sig0]] {
+        let written = response("a.", RecordType::A).additionals(two).finish(512);
+        assert_eq!(written.unwrap_err().kind(), ErrorKind::BadItem);
+    }
+}
+
+/// A response code above 15 needs EDNS, whatever the message (RFC 6891, section 6.1.3).
+#[test]
+fn long_codes_need_edns() {
+    for code in [15, 16, 23, 4095, 4096].map(ResponseCode::from) {
+        let mut message = MessageBuilder::new(Header::default());
+        let plain = message.response_code(code).finish(512).map_err(|error| error.kind());
+        let by_edns = message.edns(&Edns::new(1232)).finish(512).map_err(|error| error.kind());
+        assert_eq!(plain.err(), if u16::from(code) > 15 { Some(ErrorKind::BadItem) } else { None });
+        match by_edns {
+            Ok(octets) => assert_eq!(Message::read(&octets).unwrap().response_code(), Ok(code)),
+            Err(kind) => assert_eq!((u16::from(code), kind), (4096, ErrorKind::BadItem)),
+        }
+    }
+}
+
 /// The last record is after OPT, and there at every size that has room for what is never left out.
 #[test]
 fn the_last_record_is_last() {
     let tsig = record("a. 0 ANY TSIG \\# 19 00 00005F0F9043 012C 0002 491B DCC6 0000 0000");
     let least = 19 + 11 + tsig.as_wire().len() as u16;
     let mut message = response("a.", RecordType::A);
-    message.last(&tsig).edns(&Edns::new(1232)).answers([record("a. 60 A 192.0.2.1")]);
+    message.additionals([&tsig]).edns(&Edns::new(1232)).answers([record("a. 60 A 192.0.2.1")]);
     for size in least..least + 40 {
         let written = message.finish(size).unwrap();
         let read = Message::read(&written).unwrap();
@@ -414,9 +452,14 @@ fn built_messages_are_padded() {
         message.edns(&Edns::new(1232));
         let padded = message.finish(1300).unwrap();
         assert_eq!((plain, padded.len() % usize::from(block.min(512))), (12 + 11 + 16, 0));
-        let signed = message.last(&tsig).finish(1300).unwrap();
+        let signed = message.additionals([&tsig]).finish(1300).unwrap();
         assert_eq!(signed.len() % usize::from(block.min(512)), 0);
         assert_eq!(Message::read(&signed).unwrap().additionals().last(), Some(tsig.as_record()));
+        // a message that was read is padded like one that is built, and once (RFC 7830, section 3)
+        let bare = message.padded(0).finish(1300).unwrap();
+        assert_eq!(Message::read(&bare).unwrap().to_padded_wire(1300, block).unwrap(), signed);
+        assert_eq!(Message::read(&signed).unwrap().to_padded_wire(1300, 468).unwrap(), signed);
+        message.padded(block);
         // no padding without room
         let least = plain + 11 + tsig.as_wire().len();
         assert_eq!(message.finish(least as u16).unwrap().len(), least);
@@ -589,7 +632,7 @@ fn headers_and_edns_are_written() {
     (header.is_response, header.authoritative, header.truncation, header.recursion_desired) = (true, true, true, true);
     (header.recursion_available, header.authentic_data, header.checking_disabled) = (true, true, true);
     (header.question_count, header.answer_count, header.authority_count, header.additional_count) = (9, 9, 9, 9);
-    let message = MessageBuilder::new(header).finish(512).unwrap();
+    let message = MessageBuilder::new(header).edns(&Edns::new(1232)).finish(512).unwrap();
     // All but Z, and a response code of twelve bits, of which OPT has eight
     assert_eq!(message, octets("ffff ffbf 0000 0000 0000 0001 00 0029 04d0 ff000000 0000"));
     let options = Pairs::to_wire([(10, &b"12345678"[..]), (3, b"")]).unwrap();
@@ -758,7 +801,7 @@ fn texts_that_are_no_records() {
         ("a. 1 IN MX 1 a", data, 13, "wanted a name (field 1)"),
         ("a. 1 IN MX ( 1 ; a.\n a )", data, 21, "wanted a name (field 1)"),
         ("a. 1 IN TYPE65280 01", data, 18, "wanted the form of any data, which begins with \\# (field 0)"),
-        ("a. 1 IN A ( 192.0.2.1", ErrorKind::UnclosedList, 21, "the text ends within parentheses"),
+        ("a. 1 IN A ( 192.0.2.1", ErrorKind::UnclosedList, 10, "the text ends within parentheses"),
     ] {
         let error = line.parse::<RecordBuf>().unwrap_err();
         assert_eq!((error.kind(), error.offset()), (kind, Some(offset)), "{line}");

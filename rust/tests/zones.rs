@@ -90,7 +90,7 @@ fn errors_have_places_and_reading_goes_on() {
     let read = ["o. 3600 IN SOA ns.o. root.o. 1 2 3 4 5", "o. 3600 IN NS ns.o."];
     let wrong = ["4:6", "5:14", "6:5"];
     assert_eq!(lines[..5], [&read[..], &wrong[..]].concat());
-    assert_eq!(lines[5..], ["www.o. 3600 IN A 192.0.2.2", "8:19", "9:1", "10:1", "www.o. 3600 IN AAAA 2001:db8::1"]);
+    assert_eq!(lines[5..], ["www.o. 3600 IN A 192.0.2.2", "8:6", "9:1", "10:1", "www.o. 3600 IN AAAA 2001:db8::1"]);
     let errors: Vec<ZoneError> = ZoneReader::new(WRONG, &name("o.")).filter_map(Result::err).collect();
     assert_eq!((errors[0].line(), errors[0].column(), errors[0].offset()), (4, 6, 44));
     assert_eq!((errors[0].sentence(), errors[0].text()), ("wanted an IPv4 address (field 0)", "ns A 192.0.2.256"));
@@ -124,7 +124,7 @@ fn lines_of_errors_are_shown_as_ascii() {
     assert_eq!(text(b"\xFF\x1B\tA\t1 ; \xC3\xA9\r\nnext"), "\\255\\027\tA\t1 ; \\195\\169");
     assert_eq!(text(b"a 1 A ( ; c\n 192.0.2\n) ; d\n"), " 192.0.2");
     let long = [&b"a A 1 ;"[..], &[b'x'; 9999]].concat();
-    assert_eq!(text(&long).len(), "a ".len() + 500);
+    assert_eq!(text(&long).len(), "a A ".len() + 500);
 }
 
 #[test]
@@ -410,4 +410,41 @@ fn zones_are_checked() {
     let none: [RecordBuf; 0] = [];
     let lacks = check_zone(&Name::root(), &none).unwrap();
     assert_eq!(lacks.iter().map(|it| it.check()).collect::<Vec<_>>(), [1, 2]);
+}
+
+/// A zone with servers, wildcards, digests and tags that are wrong, and some that are right, worked by hand.
+#[test]
+fn servers_and_data_are_checked() {
+    let lines = [
+        "a. 60 SOA ns.a. h.a. 1 2 3 4 5",
+        "A. 60 SOA NS.a. h.A. 1 2 3 4 5",
+        "a. 60 NS ns.a.",
+        "a. 60 MX 1 192.0.2.9.",
+        "a. 60 MX 1 any.deep.w.a.",
+        "a. 60 MX 1 w.a.",
+        "c.a. 60 CAA \\# 6 0003612d6278",
+        "d.a. 60 DNAME b.",
+        "d.a. 60 NS ns.a.",
+        "ns.a. 60 A 192.0.2.1",
+        "s.a. 60 NS ns.t.a.",
+        "s.a. 60 DS 1 13 2 aa",
+        "t.a. 60 NS ns.t.a.",
+        "*.w.a. 60 A 192.0.2.2",
+        "*.x.a. 60 NS ns.a.",
+    ];
+    let zone: Vec<RecordBuf> = lines.iter().map(|line| line.parse().unwrap()).collect();
+    let found = check_zone(&"a.".parse::<Name>().unwrap(), &zone).unwrap();
+    let numbers: Vec<_> = found.iter().map(|it| (it.check(), it.is_error(), it.record(), it.other())).collect();
+    let wanted = [
+        (19, false, Some(3), None),
+        (21, false, Some(5), None),
+        (18, true, Some(6), None),
+        (15, true, Some(7), Some(8)),
+        (20, false, Some(10), None),
+        (17, true, Some(11), None),
+        (14, true, Some(12), None),
+        (16, false, Some(14), None),
+    ];
+    assert_eq!(numbers, wanted);
+    assert_eq!(found[0].to_string(), "warning: the name of a server is the text of an address");
 }

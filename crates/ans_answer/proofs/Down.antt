@@ -7,7 +7,7 @@ use Rattle.std.specs.Char.{to_ascii_lowercase}
 use Rattle.std.specs.List.{filter, list_any}
 use Rattle.dns_names_wire.specs.Words.{IsZoneOf, NameValue, RecordValue, is_in, is_same, wildcard}
 use Rattle.ans_store.proofs.Names.{in_if_same, in_if_zone, lower_if_same, zone_if_in}
-use Rattle.ans_store.specs.Zones.{ZoneValue, exists, owned_by}
+use Rattle.ans_store.specs.Zones.{ZoneValue, name_exists, owned_by}
 use Rattle.ans_answer.specs.Outcomes.{ZoneOutcome, Exact, Referral, by_wildcard, encloser, is_delegation, is_sent, itself, sent_above, sent_at, source}
 use Rattle.ans_answer.specs.Inside.Ways.{EndsDown}
 
@@ -88,46 +88,46 @@ in_parent label above name h = by (zone_if_in (label ∷ above) name h)
     by (front, (l ∷ rest), is, same) =
         in_if_zone above name (front ++ l ∷ [], rest, is ∙ sym (append_assoc front (l ∷ []) rest), ap (drop 1) same)
 
-not_below : (zs : List RecordValue) (label : List ℕ) (above : List (List ℕ)) → exists above zs ≡ false → exists (label ∷ above) zs ≡ false
-unfolding exists
+not_below : (zs : List RecordValue) (label : List ℕ) (above : List (List ℕ)) → name_exists above zs ≡ false → name_exists (label ∷ above) zs ≡ false
+unfolding name_exists
 not_below zs label above h = any_more (λ r. is_in above r.owner) (λ r. is_in (label ∷ above) r.owner) zs (λ z. in_parent label above z.owner) h
 
-none_below : (zs : List RecordValue) (front above : List (List ℕ)) → exists above zs ≡ false → exists (front ++ above) zs ≡ false
+none_below : (zs : List RecordValue) (front above : List (List ℕ)) → name_exists above zs ≡ false → name_exists (front ++ above) zs ≡ false
 none_below zs [] above h = h
 none_below zs (label ∷ front) above h = not_below zs label (front ++ above) (none_below zs front above h)
 
-pub nothing_owned : (zs : List RecordValue) (name : List (List ℕ)) → exists name zs ≡ false → owned_by name zs ≡ []
-unfolding exists owned_by
+pub nothing_owned : (zs : List RecordValue) (name : List (List ℕ)) → name_exists name zs ≡ false → owned_by name zs ≡ []
+unfolding name_exists owned_by
 nothing_owned zs name h = filter_nothing (λ r. is_in name r.owner) (λ r. is_same r.owner name) zs (λ z. in_if_same name z.owner) h
 
 no_cut : (a : Bool) → (not a && false) ≡ false
 no_cut true = refl
 no_cut false = refl
 
-not_sent : (zone : ZoneValue) (name : List (List ℕ)) → exists name zone.records ≡ false → sent_at zone name ≡ None
+not_sent : (zone : ZoneValue) (name : List (List ℕ)) → name_exists name zone.records ≡ false → sent_at zone name ≡ None
 unfolding sent_at is_delegation
 not_sent zone name h = rw (nothing_owned zone.records name h, no_cut (is_same name zone.apex)) refl
 
 module _ (zone : ZoneValue) where
-  not_sent_below : (front above : List (List ℕ)) → length zone.apex ≤ length above → exists above zone.records ≡ false → sent_above zone above ≡ None
+  not_sent_below : (front above : List (List ℕ)) → length zone.apex ≤ length above → name_exists above zone.records ≡ false → sent_above zone above ≡ None
       → sent_above zone (front ++ above) ≡ None
   not_sent_below [] above h gone none = none
   not_sent_below (label ∷ front) above h gone none =
       one_below zone label (front ++ above) (omega (arith, length-append front above)) (not_sent_below front above h gone none)
       ∙ not_sent zone (front ++ above) (none_below zone.records front above gone)
 
-  encloser_below : (front above : List (List ℕ)) → exists above zone.records ≡ false → encloser zone (front ++ above) ≡ encloser zone above
+  encloser_below : (front above : List (List ℕ)) → name_exists above zone.records ≡ false → encloser zone (front ++ above) ≡ encloser zone above
   unfolding encloser
   encloser_below [] above gone = refl
   encloser_below (label ∷ front) above gone =
       rw (not_below zone.records label (front ++ above) (none_below zone.records front above gone)) (encloser_below front above gone)
 
-  encloser_self : (name : List (List ℕ)) → exists name zone.records ≡ true → encloser zone name ≡ name
+  encloser_self : (name : List (List ℕ)) → name_exists name zone.records ≡ true → encloser zone name ≡ name
   unfolding encloser
   encloser_self [] h = refl
   encloser_self (label ∷ above) h = rw h refl
 
-  encloser_up : (label : List ℕ) (above : List (List ℕ)) → exists (label ∷ above) zone.records ≡ false → exists above zone.records ≡ true
+  encloser_up : (label : List ℕ) (above : List (List ℕ)) → name_exists (label ∷ above) zone.records ≡ false → name_exists above zone.records ≡ true
       → encloser zone (label ∷ above) ≡ above
   unfolding encloser
   encloser_up label above gone there = rw gone (encloser_self above there)
@@ -138,8 +138,8 @@ in_same apex name other same h =
     in_if_zone name other (front, rest, is, lowered ∙ sym (lower_if_same name apex same))
 
 -- A name exists as one that is the same does.
-exists_same : (zs : List RecordValue) (apex name : List (List ℕ)) → is_same name apex ≡ true → exists apex zs ≡ true → exists name zs ≡ true
-unfolding exists
+exists_same : (zs : List RecordValue) (apex name : List (List ℕ)) → is_same name apex ≡ true → name_exists apex zs ≡ true → name_exists name zs ≡ true
+unfolding name_exists
 exists_same zs apex name same h =
     so_true _ (λ no. true≢false (sym h ∙ any_more (λ r. is_in name r.owner) (λ r. is_in apex r.owner) zs (λ z. in_same apex name z.owner same) no))
 
@@ -153,7 +153,7 @@ pub record IsDown (zone : ZoneValue) (name : List (List ℕ)) (count : ℕ) : Ty
   pub lower : length zone.apex ≤ count
   pub upper : count ≤ length name
   pub none : sent_above zone (drop (length name - count) name) ≡ None
-  pub known : length zone.apex < count → exists (drop (length name - count + 1) name) zone.records ≡ true
+  pub known : length zone.apex < count → name_exists (drop (length name - count + 1) name) zone.records ≡ true
 
 last_long : (name : List (List ℕ)) (count : ℕ) → count ≤ length name → length (drop (length name - count) name) ≡ count
 last_long name count h = length-drop (length name - count) name ∙ omega arith
@@ -200,7 +200,7 @@ module _ (zone : ZoneValue) (name : List (List ℕ)) where
       ap (sent_above zone) (next_is count below)
       ∙ one_below zone (get_or name (length name - (count + 1)) []) (drop (length name - count) name) long down.none
 
-  pub down_more : (count : ℕ) → IsDown zone name count → count < length name → exists (drop (length name - count) name) zone.records ≡ true
+  pub down_more : (count : ℕ) → IsDown zone name count → count < length name → name_exists (drop (length name - count) name) zone.records ≡ true
       → sent_at zone (drop (length name - count) name) ≡ None → IsDown zone name (count + 1)
   down_more count down below there none =
       let back : length name - (count + 1) + 1 ≡ length name - count = omega arith in
@@ -208,7 +208,7 @@ module _ (zone : ZoneValue) (name : List (List ℕ)) where
         lower = omega (arith, down.lower);
         upper = omega arith;
         none = sent_next count down below ∙ none;
-        known = λ less. subst (λ n. exists (drop n name) zone.records ≡ true) (sym back) there;
+        known = λ less. subst (λ n. name_exists (drop n name) zone.records ≡ true) (sym back) there;
       }
 
   pub sent_down : (count : ℕ) (o : ZoneOutcome) → IsDown zone name count → count < length name → sent_at zone (drop (length name - count) name) ≡ Some o
@@ -219,8 +219,8 @@ module _ (zone : ZoneValue) (name : List (List ℕ)) where
       subst (λ (n : List (List ℕ)). sent_above zone n ≡ Some o) (take-append-drop left name)
       (all_below zone (take left name) (drop left name) o long (sent_next count down below ∙ sent))
 
-  above_apex : (count : ℕ) → is_in zone.apex name ≡ true → exists zone.apex zone.records ≡ true → IsDown zone name count
-      → exists (drop (length name - count) name) zone.records ≡ false → length zone.apex < count
+  above_apex : (count : ℕ) → is_in zone.apex name ≡ true → name_exists zone.apex zone.records ≡ true → IsDown zone name count
+      → name_exists (drop (length name - count) name) zone.records ≡ false → length zone.apex < count
   unfolding is_in
   above_apex count inside there down gone =
       elim (cases_lt (length zone.apex) count) [
@@ -228,12 +228,12 @@ module _ (zone : ZoneValue) (name : List (List ℕ)) where
         | inr above ↦
             let same : count ≡ length zone.apex = omega (arith, down.lower, above) in
             absurd (true≢false (sym (exists_same zone.records zone.apex (drop (length name - length zone.apex) name) inside there)
-            ∙ subst (λ n. exists (drop (length name - n) name) zone.records ≡ false) same gone))
+            ∙ subst (λ n. name_exists (drop (length name - n) name) zone.records ≡ false) same gone))
       ]
 
   -- The name of so many labels does not exist: then the one above it is the closest encloser.
-  ends_at : (count : ℕ) → is_in zone.apex name ≡ true → exists zone.apex zone.records ≡ true → IsDown zone name count
-      → exists (drop (length name - count) name) zone.records ≡ false
+  ends_at : (count : ℕ) → is_in zone.apex name ≡ true → name_exists zone.apex zone.records ≡ true → IsDown zone name count
+      → name_exists (drop (length name - count) name) zone.records ≡ false
       → (0 < count) × (encloser zone name ≡ drop (length name - count + 1) name)
   ends_at count inside there down gone =
       let left = length name - count in
@@ -243,12 +243,12 @@ module _ (zone : ZoneValue) (name : List (List ℕ)) where
         ap (encloser zone) (sym (take-append-drop left name))
             ∙ (encloser_below zone (take left name) (drop left name) gone
             ∙ (ap (encloser zone) (last_more name count some down.upper)
-            ∙ encloser_up zone (get_or name left []) (drop (left + 1) name) (subst (λ (n : List (List ℕ)). exists n zone.records ≡ false) (last_more name count some down.upper) gone)
+            ∙ encloser_up zone (get_or name left []) (drop (left + 1) name) (subst (λ (n : List (List ℕ)). name_exists n zone.records ≡ false) (last_more name count some down.upper) gone)
             (down.known below))),
       )
 
-  pub ends_before : (count : ℕ) → is_in zone.apex name ≡ true → exists zone.apex zone.records ≡ true → IsDown zone name count
-      → exists (drop (length name - count) name) zone.records ≡ false → EndsDown zone name count
+  pub ends_before : (count : ℕ) → is_in zone.apex name ≡ true → name_exists zone.apex zone.records ≡ true → IsDown zone name count
+      → name_exists (drop (length name - count) name) zone.records ≡ false → EndsDown zone name count
   ends_before count inside there down gone =
       let left = length name - count in
       let (some, closest) = ends_at count inside there down gone in
@@ -260,14 +260,14 @@ module _ (zone : ZoneValue) (name : List (List ℕ)) where
         closest = λ _. closest;
       }
 
-  pub ends_there : (count : ℕ) → is_in zone.apex name ≡ true → exists zone.apex zone.records ≡ true → IsDown zone name count → length name ≤ count
+  pub ends_there : (count : ℕ) → is_in zone.apex name ≡ true → name_exists zone.apex zone.records ≡ true → IsDown zone name count → length name ≤ count
       → EndsDown zone name count
   ends_there count inside there down all =
       let upper = down.upper in
       let zero : length name - count ≡ 0 = omega arith in
       let whole : drop (length name - count) name ≡ name = ap (λ n. drop n name) zero in
-      let ends = λ (gone : exists name zone.records ≡ false).
-      ends_at count inside there down (subst (λ (n : List (List ℕ)). exists n zone.records ≡ false) (sym whole) gone) in
+      let ends = λ (gone : name_exists name zone.records ≡ false).
+      ends_at count inside there down (subst (λ (n : List (List ℕ)). name_exists n zone.records ≡ false) (sym whole) gone) in
       record {
         within = upper;
         not_sent = subst (λ (n : List (List ℕ)). sent_above zone n ≡ None) whole down.none;
@@ -278,7 +278,7 @@ module _ (zone : ZoneValue) (name : List (List ℕ)) where
 -- ---- what a name itself says
 
 pub itself_missing : (zone : ZoneValue) (name wild : List (List ℕ)) (code count : ℕ) → EndsDown zone name count → is_sent zone name code ≡ false
-    → exists name zone.records ≡ false → wild ≡ wildcard ∷ drop (length name - count + 1) name → by_wildcard zone wild ≡ itself zone name code
+    → name_exists name zone.records ≡ false → wild ≡ wildcard ∷ drop (length name - count + 1) name → by_wildcard zone wild ≡ itself zone name code
 unfolding itself source
 itself_missing zone name wild code count end kept gone is = rw (kept, gone, end.closest gone, is) refl
 
@@ -287,7 +287,7 @@ pub itself_sent : (zone : ZoneValue) (name : List (List ℕ)) (code : ℕ) (rs :
 unfolding itself
 itself_sent zone name code rs sent is = rw (sent, is) refl
 
-pub itself_there : (zone : ZoneValue) (name : List (List ℕ)) (code : ℕ) (rs : List RecordValue) → is_sent zone name code ≡ false → exists name zone.records ≡ true
+pub itself_there : (zone : ZoneValue) (name : List (List ℕ)) (code : ℕ) (rs : List RecordValue) → is_sent zone name code ≡ false → name_exists name zone.records ≡ true
     → rs ≡ owned_by name zone.records → Exact rs ≡ itself zone name code
 unfolding itself
 itself_there zone name code rs kept there is = rw (kept, there, is) refl

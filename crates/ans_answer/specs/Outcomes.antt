@@ -3,7 +3,7 @@ use Rattle.std.specs.Prelude.{◌==◌, ◌&&◌, ◌||◌, ℕ, Bool, not, nat_
 use Rattle.std.specs.List.{list_any}
 use Rattle.std.specs.Option.{option_or}
 use Rattle.dns_names_wire.specs.Words.{RecordValue, any_code, cname_code, dname_code, ds_code, is_in, is_same, ns_code, type_code, wildcard}
-use Rattle.ans_store.specs.Zones.{ZoneValue, exists, have_type, owned_by}
+use Rattle.ans_store.specs.Zones.{ZoneValue, name_exists, have_type, owned_by}
 use Rattle.ans_answer.specs.declared.kind.Kind.{Kind}
 use Rattle.ans_answer.specs.declared.kind.Kind.TheVariants.{Alias, NoData, Records}
 
@@ -45,14 +45,14 @@ sent_above zone (label ∷ above) =
 -- the closest encloser: the longest name at or above this one that exists (RFC 4592, section 3.3.1)
 unfoldable pub encloser : ZoneValue → List (List ℕ) → List (List ℕ)
 encloser zone [] = []
-encloser zone (label ∷ above) = if exists (label ∷ above) zone.records then label ∷ above else encloser zone above
+encloser zone (label ∷ above) = if name_exists (label ∷ above) zone.records then label ∷ above else encloser zone above
 
 -- the wildcard that stands for names below the closest encloser (RFC 4592, section 3.3.1)
 unfoldable pub source : ZoneValue → List (List ℕ) → List (List ℕ)
 source zone name = wildcard ∷ encloser zone name
 
 unfoldable pub by_wildcard : ZoneValue → List (List ℕ) → ZoneOutcome
-by_wildcard zone wild = if exists wild zone.records then Synthesised (owned_by wild zone.records) else NoName
+by_wildcard zone wild = if name_exists wild zone.records then Synthesised (owned_by wild zone.records) else NoName
 
 -- ---- the outcome
 
@@ -64,7 +64,7 @@ is_sent zone name code = is_delegation zone name && not (code == ds_code)
 unfoldable pub itself : ZoneValue → List (List ℕ) → ℕ → ZoneOutcome
 itself zone name code =
     if is_sent zone name code then Referral (owned_by name zone.records)
-    else if exists name zone.records then Exact (owned_by name zone.records) else by_wildcard zone (source zone name)
+    else if name_exists name zone.records then Exact (owned_by name zone.records) else by_wildcard zone (source zone name)
 
 unfoldable pub outcome : ZoneValue → List (List ℕ) → ℕ → ZoneOutcome
 outcome zone name code = if is_in zone.apex name then unwrap_or (sent_above zone name) (itself zone name code) else Outside

@@ -11,7 +11,7 @@ use Rattle.std.specs.Ordering.{is_eq, is_lt, ordering_reverse}
 use Rattle.std.specs.declared.cmp.Ordering.{Ordering}
 use Rattle.std.specs.declared.cmp.Ordering.TheVariants.{Less, Equal, Greater}
 use Rattle.dns_names_wire.specs.Words.{KeysCompare, OwnersAreInOrder, RecordValue, ZonesBegin, is_in, is_same, labels_cmp, type_code}
-use Rattle.ans_store.specs.Zones.{IsFirstFrom, exists, have_type, owned_by}
+use Rattle.ans_store.specs.Zones.{IsFirstFrom, name_exists, have_type, owned_by}
 use Rattle.ans_store.proofs.Names.{in_between, in_if_same, labels_total, names_rank, not_before_zone}
 
 so_true : (b : Bool) → (b ≡ false → ⊥) → b ≡ true
@@ -166,9 +166,9 @@ any_place p (z ∷ zs) h = place_on p z zs (p z) refl h (any_place p zs)
 
 module _ (compare : KeysCompare) (begin : ZonesBegin) where
   -- If a name exists, the first record from it on is in it.
-  first_in : (zs : List RecordValue) (name : List (List ℕ)) (start : ℕ) → OwnersAreInOrder zs → IsFirstFrom zs name start → exists name zs ≡ true
+  first_in : (zs : List RecordValue) (name : List (List ℕ)) (start : ℕ) → OwnersAreInOrder zs → IsFirstFrom zs name start → name_exists name zs ≡ true
       → (start < length zs) × ((d : RecordValue) → is_in name (get_or zs start d).owner ≡ true)
-  unfolding exists
+  unfolding name_exists
   first_in zs name start up first h =
       let (r, k, below, passes) = any_place (λ r. is_in name r.owner) zs h in
       elim (cases_lt k start) [
@@ -181,12 +181,12 @@ module _ (compare : KeysCompare) (begin : ZonesBegin) where
       ]
 
   pub exists_not : (zs : List RecordValue) (name : List (List ℕ)) (start : ℕ) → OwnersAreInOrder zs → IsFirstFrom zs name start → length zs ≤ start
-      → exists name zs ≡ false
+      → name_exists name zs ≡ false
   exists_not zs name start up first past = so_false _ (λ h. absurd (omega (arith, (first_in zs name start up first h).0)))
 
   pub exists_by_first : (zs : List RecordValue) (name : List (List ℕ)) (start : ℕ) (r : RecordValue) (b : Bool) → OwnersAreInOrder zs → IsFirstFrom zs name start
-      → start < length zs → r ≡ get_or zs start r → b ≡ is_in name r.owner → b ≡ exists name zs
-  unfolding exists
+      → start < length zs → r ≡ get_or zs start r → b ≡ is_in name r.owner → b ≡ name_exists name zs
+  unfolding name_exists
   exists_by_first zs name start r b up first within is same = by (is_in name r.owner) refl
     where
       by : (c : Bool) → c ≡ is_in name r.owner → b ≡ list_any (λ z. is_in name z.owner) zs
@@ -247,7 +247,7 @@ any_of_filter p q t (z ∷ zs) all h = by (q z) refl (any_of_filter p q t zs all
     by true is on = rw (all z (sym is)) refl
     by false is on = or_true (t z) (list_any t zs) (on (rw (sym is) at h))
 
-pub owner_exists : (name : List (List ℕ)) (code : ℕ) (zs : List RecordValue) → have_type code (owned_by name zs) ≡ true → exists name zs ≡ true
-unfolding exists owned_by
+pub owner_exists : (name : List (List ℕ)) (code : ℕ) (zs : List RecordValue) → have_type code (owned_by name zs) ≡ true → name_exists name zs ≡ true
+unfolding name_exists owned_by
 owner_exists name code zs h =
     any_of_filter (λ r. type_code r.record_type == code) (λ r. is_same r.owner name) (λ r. is_in name r.owner) zs (λ z same. in_if_same name z.owner same) h

@@ -16,8 +16,8 @@ owned_by name records = filter (λ r. is_same r.owner name) records
 
 -- A name exists if it or a name below it owns a record (RFC 4592, section 2.2.2). So a name between two others may exist without a
 -- record.
-unfoldable pub exists : List (List ℕ) → List RecordValue → Bool
-exists name records = list_any (λ r. is_in name r.owner) records
+unfoldable pub name_exists : List (List ℕ) → List RecordValue → Bool
+name_exists name records = list_any (λ r. is_in name r.owner) records
 
 -- One of these records has this type.
 abbrev pub have_type : ℕ → List RecordValue → Bool
@@ -47,4 +47,4 @@ pub record IsNode (records : List RecordValue) (name : List (List ℕ)) (node : 
   pub ordered : node.start ≤ node.end
   pub within : node.end ≤ length records
   pub owned : slice_range records node.start node.end ≡ owned_by name records
-  pub known : node.exists ≡ exists name records
+  pub known : node.exists ≡ name_exists name records

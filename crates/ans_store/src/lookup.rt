@@ -3,7 +3,7 @@ ghost use Rattle.std.specs.Prelude.{◌≡◌, ◌==◌, ◌≤◌, true, length
 ghost use Rattle.std.specs.List.{AllByRecursion};
 ghost use Rattle.std.specs.Ordering.{is_lt};
 ghost use Rattle.dns_names_wire.specs.Words.{IsOutOfOrder, OwnersAreInOrder, is_in, is_same, labels_cmp, type_code};
-ghost use Rattle.ans_store.specs.Zones.{IsFirstFrom, IsFirstOutside, IsNode, exists, have_type, owned_by};
+ghost use Rattle.ans_store.specs.Zones.{IsFirstFrom, IsFirstOutside, IsNode, name_exists, have_type, owned_by};
 
 use crate::records::Records;
 use dns_names_wire::sort_key::laws;
@@ -82,7 +82,7 @@ fn is_owner(record: &RecordRef<'_>, name: &Name) -> bool
 fn exists_from(records: &Records<'_>, name: &Name, start: usize) -> bool
     requires order { OwnersAreInOrder records.now }
     requires first { IsFirstFrom records.now name.now.labels start }
-    ensures { result ≡ exists name.now.labels records.now }
+    ensures { result ≡ name_exists name.now.labels records.now }
 {
     laws::keys_compare();
     laws::zones_begin();

@@ -2,7 +2,7 @@
 ghost use Rattle.std.specs.Prelude.{◌≡◌, ◌≤◌, ◌<◌, true, length, IfOk, IfErr, slice_index_or, slice_range};
 ghost use Rattle.ans_store.specs.Loading.{FailsToLoad};
 ghost use Rattle.ans_store.specs.Stored.{AreRecordsFrom};
-ghost use Rattle.ans_store.specs.Zones.{IsNode, IsZone, exists, have_type};
+ghost use Rattle.ans_store.specs.Zones.{IsNode, IsZone, name_exists, have_type};
 
 use crate::error::StoreError;
 use crate::lookup::{self, Node, first_outside, out_of_order};
@@ -65,7 +65,7 @@ impl<'a> ZoneStore<'a> {
     pub fn apex(&self) -> &Name
         ensures apex { result.now.labels ≡ self.now.apex }
         ensures zone { IsZone self.now }
-        ensures there { exists self.now.apex self.now.records ≡ true }
+        ensures there { name_exists self.now.apex self.now.records ≡ true }
     {
         &self.apex
     }

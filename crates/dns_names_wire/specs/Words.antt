@@ -145,7 +145,7 @@ pub use Rattle.dnw_zone_values.specs.Strings.{IsLongText, IsString, IsStringText
 pub use Rattle.dnw_zone_values.specs.Strings.{octets_from, quote, string_octets, string_text}
 pub use Rattle.dnw_zone_values.specs.Tags.{IsTag, IsTagText}
 pub use Rattle.dnw_zone_values.specs.Strings.{with_octet}
-pub use Rattle.dnw_zone_values.specs.Times.{IsDateText, IsDay, IsMoment, IsTimeText, two_at}
+pub use Rattle.dnw_zone_values.specs.Times.{IsDateText, IsDay, IsMoment, IsTimeText, time_count, two_at}
 -- Texts of the data of records.
 pub use Rattle.dnw_zone_data.specs.NumberForms.{IsNumberIn, IsPeriod}
 unfoldable pub use Rattle.dnw_zone_data.specs.NumberForms.{number_forms}
@@ -169,18 +169,19 @@ pub use Rattle.dnw_zone_record.specs.RecordTextLaws.{LinesAreUnambiguous, LinesC
 pub use Rattle.dnw_zone_file.specs.declared.context.Context.{Context}
 pub use Rattle.dnw_zone_file.specs.declared.zone_text.OwnedRecord.{OwnedRecord}
 pub use Rattle.dnw_zone_file.specs.declared.zone_text.ZoneTextError.{ZoneTextError}
-pub use Rattle.dnw_zone_file.specs.Contexts.{IsFirst, class_after, ttl_after, with_origin, with_record, with_ttl}
+pub use Rattle.dnw_zone_file.specs.Contexts.{IsFirst, class_after, minimum_after, record_ttl, ttl_after, with_minimum, with_origin, with_record, with_ttl}
+pub use Rattle.dnw_zone_file.specs.Heads.{is_zone_class, is_zone_type, max_zone_ttl}
 pub use Rattle.dnw_zone_file.specs.Entries.{FailsEntry, IsEntry}
 pub use Rattle.dnw_zone_file.specs.Steps.{IsStep}
 pub use Rattle.dnw_zone_file.specs.ZoneTexts.{BeginsWithRecords, FailsZoneText, IsZoneText, LacksEntry, TakesEntry, records_of_entry}
-pub use Rattle.dnw_zone_file.specs.Written.{AppendsLine, AreOfType, IsSameRecord, written_line, written_head}
+pub use Rattle.dnw_zone_file.specs.Written.{AppendsLine, AreOfType, IsOfZone, IsSameRecord, written_line, written_head}
 pub use Rattle.dnw_zone_file.specs.WriterLaws.{HasDataOctets, IsWrittenRecord, LinesAreEntries, LinesAreReadBack}
 pub use Rattle.dnw_zone_file.specs.ShortLines.{AppendsOrigin, AppendsShort, AppendsTtl, IsBefore, IsShortName, IsShortOwner, IsShortText, origin_line, short_head, short_line, short_rest, short_ttl, ttl_line}
 pub use Rattle.dnw_zone_file.specs.WriterLaws.{IsWrittenZone, NothingIsWritten, OriginsAreAdded, OriginsAreEntries, ZoneRecordsAreAdded, ShortLinesAreEntries, ShortLinesAreReadBack, TtlsAreAdded, TtlsAreEntries, WrittenTextsAreRecords}
-pub use Rattle.dnw_zone_file.specs.Findings.{check_number, finding, is_error, listed}
-pub use Rattle.dnw_zone_file.specs.HostNames.{is_host_label, is_host_name}
-pub use Rattle.dnw_zone_file.specs.Checks.{AreFindings, AreFindingsFrom, AreOfServer, FailsCheck, IsNameAfter, IsOutOfOrder, IsRecordFindings, IsServer, apex_findings, own_findings, server_findings}
-unfoldable pub use Rattle.dnw_zone_file.specs.Checks.{OwnersAreInOrder, first_at, is_in, is_same}
+pub use Rattle.dnw_zone_checks.specs.Findings.{check_number, finding, is_error, listed}
+pub use Rattle.dnw_zone_checks.specs.HostNames.{is_host_label, is_host_name}
+pub use Rattle.dnw_zone_checks.specs.Checks.{AreFindings, AreFindingsFrom, AreOfServer, FailsCheck, IsNameAfter, IsOutOfOrder, IsRecordFindings, IsServer, apex_findings, own_findings, server_findings}
+unfoldable pub use Rattle.dnw_zone_checks.specs.Checks.{OwnersAreInOrder, first_at, is_in, is_same}
 -- Whole messages: headers, sections and EDNS.
 pub use Rattle.dnw_message_read.specs.HeaderLaws.{HeaderFits, HeadersReadBack, HeadersWriteBack}
 pub use Rattle.dnw_message_read.specs.Headers.{TakesHeader, flag, flags_of, header_of, header_size, header_wire, is_set, metadata_of}
@@ -240,8 +241,8 @@ pub use Rattle.dnw_message_writer.specs.ReadItems.{OctetsAreRead, ReadMessagesHa
 pub use Rattle.dnw_message_writer.specs.SizeLaws.{QuestionsTakeNoMore, RecordsTakeNoMore, whole_pieces, whole_question, whole_record}
 pub use Rattle.dnw_message_writer.specs.CompressedNames.{Compresses, FindsHint, FindsNoHint, former_hint, kept_hints, later_hint, MayPointTo, pointer_octets, put_at, PutsForm, PutsPast, spelled}
 pub use Rattle.dnw_message_writer.specs.ContentLaws.{given_form, GivenRecordsAreAdded}
-pub use Rattle.dnw_message_writer.specs.Copying.{AreASet, AreOfOneKind, AreOfOneSet, CopiesHeld, CopiesMessage, CopiesQuestions, CopiesSections, CopiesSets, copied_past, CopyFits, EndsBefore}
-pub use Rattle.dnw_message_writer.specs.Copying.{FailsHeld, FailsQuestions, StopsAtQuestion, FailsSections, FailsSets, FailsToAddCopy, FailsToAddQuery, FailsToCopyMessage, FollowsFew, StopsAmong}
+pub use Rattle.dnw_message_writer.specs.Copying.{AreASet, AreOfOneKind, AreOfOneSet, CopiesBody, CopiesHeld, CopiesMessage, CopiesQuestions, CopiesSections, CopiesSets, copied_past, CopyFits, EndsBefore}
+pub use Rattle.dnw_message_writer.specs.Copying.{FailsBody, FailsHeld, FailsQuestions, StopsAtQuestion, FailsSections, FailsSets, FailsToAddCopy, FailsToAddQuery, FailsToCopyMessage, FollowsFew, StopsAmong}
 pub use Rattle.dnw_message_writer.specs.Copying.{StandWhole, StopsInSet}
 pub use Rattle.dnw_message_writer.specs.Copying.{copied_form, covers_no_type, FailsToHold, held_in, HoldsFor, is_held, IsWholeSize, lacks_half_of, lacks_of, lacks_record_of, lacks_some, left_out_of, MayNotMiss, Misses, query_form, section_records, sets_of, signs_message, size_with, there_of}
 pub use Rattle.dnw_message_writer.specs.CopyLaws.{AreItemsOf, AreTheFirst, CopiesHold, IsCopiedQuestion, IsCopiedRecord, is_missing_of, AreNotHalved, HasWholeSets, IsAmong, SetsAreWhole}
@@ -253,6 +254,8 @@ pub use Rattle.dnw_message_writer.specs.Items.{question_form, question_past, rec
 pub use Rattle.dnw_message_writer.specs.Listed.{data_form, data_past, FailsListed, FailsToAddData, ListsData}
 pub use Rattle.dnw_message_writer.specs.NameLaws.{CompressedNamesTakeNoMore, KeepsSettled, WrittenNamesAreRead}
 pub use Rattle.dnw_message_writer.specs.Needs.{are_beside, are_the_same, has_data_below, has_half, has_half_in, has_required, halves, holding, holding_all, is_answered, is_half_after, is_half_there, is_of_address, last_data, most_pairs, set_type, signs_set, with_all_asked, with_asked, is_below, is_below_cut, is_glue, is_extra, is_of_query, is_request, is_required, is_required_in, is_server, is_transfer, is_uncut, purpose_by, purpose_of, signs_servers}
+pub use Rattle.dnw_message_writer.specs.Padded.{CopiesAndPads, CopiesEnds, CopiesOpt, CopiesPadded, CopiesSignatures, FailsEnds, FailsSignatures}
+pub use Rattle.dnw_message_writer.specs.Padded.{FailsToCopyOpt, FailsToCopyPadded, has_padding, IsNotToPad, IsToPad, SaysAs, signatures_in}
 pub use Rattle.dnw_message_writer.specs.Pieces.{ArePieces, GoesPast, IsPiece}
 pub use Rattle.dnw_message_writer.specs.Queries.{AddsSize, BeginsQuery, FailsToAddSize, FailsToQuery, query_flags}
 pub use Rattle.dnw_message_writer.specs.ReadItems.{GivenDataComeBack}

@@ -299,17 +299,17 @@ pub mod usage {
 
 /// Zone files, entry by entry (RFC 1035, section 5; RFC 2308, section 4), with the place of each error.
 pub mod zone {
-    pub use dnw_zone_file::checks::{CheckError, check_zone};
+    pub use dnw_zone_checks::checks::{CheckError, check_zone};
     pub use dnw_zone_file::context::Context;
     pub use dnw_zone_file::entry::{Entry, Include, ZoneRecord, entry_of};
     pub use dnw_zone_file::error::{ZoneError, ZoneRule};
-    pub use dnw_zone_file::finding::{Check, Finding};
+    pub use dnw_zone_checks::finding::{Check, Finding};
     pub use dnw_zone_file::laws;
     pub use dnw_zone_file::place::{TextPlace, place_of};
     pub use dnw_zone_file::short_line::{append_origin, append_short_record, append_ttl};
     pub use dnw_zone_file::step::{Found, Step, take_entry};
     pub use dnw_zone_file::writer::append_record;
     pub use dnw_zone_file::zone_text::{OwnedRecord, ZoneTextError, read_records};
-    pub use dnw_zone_record::scan::{Ending, scan};
+    pub use dnw_zone_record::scan::{Ending, is_indented, scan};
     pub use dnw_zone_record::word_error::WordRule;
 }

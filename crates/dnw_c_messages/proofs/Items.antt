@@ -6,8 +6,9 @@ use Rattle.dnw_record.proofs.RecordReading.{record_own}
 use Rattle.dnw_message_writer.specs.Needs.{purpose_by}
 use Rattle.dnw_message_writer.specs.declared.needs.Purpose.{Purpose}
 use Rattle.dnw_c_base.proofs.Starts.{takes_onward}
-use Rattle.dnw_c_base.specs.Offsets.{at_offset}
-use Rattle.dnw_c_messages.specs.ListCalls.{ScansItem, ScansTo, TakesQuestion, at_start, held_with, more_items, place_of}
+use Rattle.dnw_c_messages.specs.ListCalls.{ScansItem, ScansTo, TakesQuestion, at_start, more_items, place_of}
+use Rattle.dnw_c_messages.specs.ListEnds.{no_ends}
+use Rattle.dnw_c_messages.specs.declared.ends.Ends.{Ends}
 
 -- A decoder is further on in the same octets.
 pub record IsOnward (d after : Decoder) : Type 0 where
@@ -38,35 +39,34 @@ question_onward {d} {name} {t} {c} {after} q =
     let left = q.left in
     record { further = omega (arith, further, index); inside = omega (arith, left, index, ap length same); same = same ∙ bytes }
 
-pub scan_onward : (octet : ℕ) (d : Decoder) (before : Purpose) (size : ℕ) (after : Decoder) (needs : Purpose) → ScansItem octet d before size after needs
-    → IsOnward d after
-scan_onward octet d before size after needs (inl (is, name, t, c, takes, asks)) = question_onward takes
-scan_onward octet d before size after needs (inr (s, ok, x, takes, is, has)) = record_onward takes.1
+pub scan_onward : (octet : ℕ) (d : Decoder) (held : Ends) (before : Purpose) (after : Decoder) (ends : Ends) (needs : Purpose)
+    → ScansItem octet d held before after ends needs → IsOnward d after
+scan_onward octet d held before after ends needs (inl (is, name, t, c, takes, no_end, asks)) = question_onward takes
+scan_onward octet d held before after ends needs (inr (s, ok, x, takes, is)) = record_onward takes.1
 
 -- ---- the scan of a list
 
 -- The items up to a decoder are scanned, which is in the list.
-pub record Scanned (list : List ℕ) (flags : ℕ) (d : Decoder) (place held : ℕ) (needs : Purpose) : Type 0 where
-  pub scans : ScansTo list flags d place held needs
+pub record Scanned (list : List ℕ) (flags : ℕ) (d : Decoder) (place : ℕ) (ends : Ends) (needs : Purpose) : Type 0 where
+  pub scans : ScansTo list flags d place ends needs
   pub same : d.bytes ≡ list
   pub inside : d.index ≤ length list
 
-pub scanned_none : (list : List ℕ) (flags : ℕ) (d : Decoder) (needs : Purpose) → d ≡ record { bytes = list; index = 0 } → needs ≡ purpose_by flags
-    → Scanned list flags d 0 0 needs
-scanned_none list flags d needs is purpose_is =
-    subst (λ e. Scanned list flags e 0 0 needs) (sym is) (subst (λ p. Scanned list flags (at_offset list 0) 0 0 p) (sym purpose_is)
-    (record { scans = at_start; same = refl; inside = omega arith }))
+pub scanned_none : (list : List ℕ) (flags : ℕ) (d : Decoder) (ends : Ends) (needs : Purpose) → d ≡ record { bytes = list; index = 0 } → ends ≡ no_ends
+    → needs ≡ purpose_by flags → Scanned list flags d 0 ends needs
+scanned_none list flags d ends needs is none purpose_is =
+    rw (is, none, purpose_is) (record { scans = at_start; same = refl; inside = omega arith })
 
-pub scanned_on : {list : List ℕ} {flags : ℕ} {d : Decoder} {place held : ℕ} {before : Purpose} → Scanned list flags d place held before
-    → (octet size p h : ℕ) (after : Decoder) (needs : Purpose) → p ≡ place_of octet → place ≤ p → h ≡ held_with held octet size
-    → ScansItem octet d before size after needs → Scanned list flags after p h needs
-scanned_on {list} {flags} {d} {place} {held} {before} g octet size p h after needs is order held_is item =
-    let onward = scan_onward octet d before size after needs item in
+pub scanned_on : {list : List ℕ} {flags : ℕ} {d : Decoder} {place : ℕ} {held : Ends} {before : Purpose} → Scanned list flags d place held before
+    → (octet p : ℕ) (after : Decoder) (ends : Ends) (needs : Purpose) → p ≡ place_of octet → place ≤ p
+    → ScansItem octet d held before after ends needs → Scanned list flags after p ends needs
+scanned_on {list} {flags} {d} {place} {held} {before} g octet p after ends needs is order item =
+    let onward = scan_onward octet d held before after ends needs item in
     let same = onward.same ∙ g.same in
     let inside = onward.inside in
-    let scans = more_items d after place held octet size before needs g.scans (omega (arith, order, is)) item in
+    let scans = more_items d after place octet held ends before needs g.scans (omega (arith, order, is)) item in
     record {
-      scans = subst (λ q. ScansTo list flags after q h needs) (sym is) (subst (λ q. ScansTo list flags after (place_of octet) q needs) (sym held_is) scans);
+      scans = subst (λ q. ScansTo list flags after q ends needs) (sym is) scans;
       same = same;
       inside = omega (arith, inside, ap length same);
     }

@@ -3,7 +3,6 @@ use Rattle.std.proofs.Common.{◌≡◌, ◌≢◌, ◌⊎◌, ℕ, ◌<◌, ◌
 use Rattle.dnw_base.specs.Decoder.{Decoder}
 use Rattle.dnw_record.specs.Records.{RecordValue}
 use Rattle.dnw_message_writer.specs.CompressedNames.{put_at}
-use Rattle.dnw_message_writer.specs.Copying.{AreOfOneSet}
 use Rattle.dnw_message_writer.specs.Hints.{slot_of}
 use Rattle.dnw_message_writer.specs.Items.{question_form, record_form}
 use Rattle.dnw_message_writer.specs.Needs.{is_uncut}
@@ -21,7 +20,8 @@ use Rattle.dnw_c_base.specs.declared.failure.Failure.{Failure}
 use Rattle.dnw_c_base.specs.declared.failure.Failure.TheVariants as why
 use Rattle.std.proofs.lemmas.List.{length-take}
 use Rattle.dnw_c_messages.specs.declared.writing.LeftOut.{LeftOut}
-use Rattle.dnw_c_messages.specs.ListCalls.{AddsListed, AddsRecords, AddsRun, BeginsWithOctet, FailsToAddListed, FailsToAddRecords, FailsToGo, Goes, GoesFrom, IsHalved, IsLeftOut, IsNoItem, IsNoneOfSet, IsOctetOf, AddsEndItem, LacksListed, Progress, TakesListed, TakesQuestion, further, here, last, last_octet, left_out, left_with, more, no_room, none, nothing_left_out, pairs_left, progress, progress_at, question, set, what_is_there}
+use Rattle.dnw_c_messages.specs.ListCalls.{AddsRecords, AddsRun, BeginsWithOctet, FailsToAddRecords, FailsToGo, Goes, GoesFrom, IsHalved, IsLeftOut, IsNoItem, IsNoneOfSet, IsOctetOf, IsOfRun, LacksListed, PassesEnd, Progress, TakesListed, TakesQuestion, comes_last, further, here, left_out, left_with, more, no_room, none, nothing_left_out, pairs_left, progress, progress_at, question, set, what_is_there}
+use Rattle.dnw_c_messages.specs.ListEnds.{AddsListed, FailsToAddListed, is_put_last}
 use Rattle.dnw_c_messages.specs.declared.halved.There.{There}
 use Rattle.dnw_c_messages.specs.WriterCalls.{StaysAsItWas}
 use Rattle.dnw_base.specs.DnsClasses.{class_code}
@@ -49,7 +49,7 @@ module _ (octet : ℕ) (s : Section) (first : RecordValue) (start : Decoder) (w 
   module _ {d : Decoder} {v : WriterState} {n : List ℕ} (g : Ran octet s first start w m d v n) where
     -- one more is added
     pub ran_on : (x : RecordValue) (after : Decoder) (u : WriterState) (o : List ℕ) → length o ≡ length n
-        → TakesListed d octet x after → AreOfOneSet first x → AddsListed s x v n u o → Ran octet s first start w m after u o
+        → TakesListed d octet x after → IsOfRun octet first x → AddsListed s x v n u o → Ran octet s first start w m after u o
     ran_on x after u o size takes same_set (pieces, has, added) =
         let further = g.further in
         let header = added.3.message.whole in
@@ -85,13 +85,13 @@ run_onward {octet} {s} {first} {start} (more d after v u n o x run takes same_se
 
 module _ {octet : ℕ} {s : Section} {d : Decoder} {x : RecordValue} {after : Decoder} {w : WriterState} {m : List ℕ} (takes : TakesListed d octet x after) where
   -- it is the first of its set
-  pub run_begins : (v : WriterState) (n : List ℕ) → length n ≡ length m → AddsListed s x w m v n → Ran octet s x d w m after v n
-  run_begins v n size adds =
-      ran_on octet s x d w m (ran_none octet s x d w m) x after v n size takes (inl refl, refl, refl) adds
+  pub run_begins : is_put_last octet x ≡ false → (v : WriterState) (n : List ℕ) → length n ≡ length m → AddsListed s x w m v n → Ran octet s x d w m after v n
+  run_begins plain v n size adds =
+      ran_on octet s x d w m (ran_none octet s x d w m) x after v n size takes (plain, (inl refl, refl, refl)) adds
 
   -- the first is not added
-  pub first_fails : (failure : Failure) → FailsToAddListed s x w m failure → FailsToAddRecords d octet s w m failure
-  first_fails failure fails = record {
+  pub first_fails : is_put_last octet x ≡ false → (failure : Failure) → FailsToAddListed s x w m failure → FailsToAddRecords d octet s w m failure
+  first_fails plain failure fails = record {
     x = x;
     next = after;
     first = takes;
@@ -102,19 +102,19 @@ module _ {octet : ℕ} {s : Section} {d : Decoder} {x : RecordValue} {after : De
     y = x;
     after = after;
     takes = takes;
-    same = (inl refl, refl, refl);
+    same = (plain, (inl refl, refl, refl));
     fails = fails;
   }
 
   module _ {at : Decoder} {v : WriterState} {n : List ℕ} (g : Ran octet s x d w m at v n) where
     pub run_on : (y : RecordValue) (later : Decoder) (u : WriterState) (o : List ℕ) → length o ≡ length n → TakesListed at octet y later
-        → AreOfOneSet x y → AddsListed s y v n u o → Ran octet s x d w m later u o
+        → IsOfRun octet x y → AddsListed s y v n u o → Ran octet s x d w m later u o
     run_on y later u o size next same adds = ran_on octet s x d w m g y later u o size next same adds
 
-    pub run_ends : IsNoneOfSet at octet x → AddsRecords d octet s w m at v n
-    run_ends others = record { x = x; next = after; first = takes; run = g.run; others = others }
+    pub run_ends : is_put_last octet x ≡ false → IsNoneOfSet at octet x → AddsRecords d octet s w m at v n
+    run_ends plain others = record { x = x; next = after; first = takes; plain = plain; run = g.run; others = others }
 
-    pub run_fails : (y : RecordValue) (later : Decoder) (failure : Failure) → TakesListed at octet y later → AreOfOneSet x y
+    pub run_fails : (y : RecordValue) (later : Decoder) (failure : Failure) → TakesListed at octet y later → IsOfRun octet x y
         → FailsToAddListed s y v n failure → FailsToAddRecords d octet s w m failure
     run_fails y later failure next same fails = record {
       x = x;
@@ -149,34 +149,34 @@ pub records_onward : {d : Decoder} {octet : ℕ} {s : Section} {w : WriterState}
     → AddsRecords d octet s w m after v n → IsOnward d after
 records_onward {d} {octet} g =
     elim (run_onward g.run) [
-      | inl same ↦ absurd (g.others g.x g.next (subst (λ e. TakesListed e octet g.x g.next) (sym same) g.first) (inl refl, refl, refl))
+      | inl same ↦ absurd (g.others g.x g.next (subst (λ e. TakesListed e octet g.x g.next) (sym same) g.first) (g.plain, (inl refl, refl, refl)))
       | inr later ↦ later
     ]
 
 -- what is next in a list has octets of its own
-pub goes_onward : (needs : Purpose) (block : ℕ) (p q : Progress) → Goes needs block p q → IsOnward p.items q.items
-goes_onward needs block p q (question name t c takes adds same) = question_onward takes
-goes_onward needs block p q (set octet s is ready adds same) = records_onward adds
-goes_onward needs block p q (no_room octet s x is ready fails cut back takes same) = record_onward takes.1
-goes_onward needs block p q (left_out octet s x is shut takes state message same) = record_onward takes.1
-goes_onward needs block p q (last x takes adds same) = record_onward takes.1
+pub goes_onward : (bare : Bool) (needs : Purpose) (p q : Progress) → Goes bare needs p q → IsOnward p.items q.items
+goes_onward bare needs p q (question name t c takes adds same) = question_onward takes
+goes_onward bare needs p q (comes_last octet (x, takes, is) state message same) = record_onward takes.1
+goes_onward bare needs p q (set octet s is ready adds same) = records_onward adds
+goes_onward bare needs p q (no_room octet s x is ready fails cut back takes same) = record_onward takes.1
+goes_onward bare needs p q (left_out octet s x is shut takes plain state message same) = record_onward takes.1
 
 -- Items are written up to a decoder, which is in the list.
-pub record Gone (list : List ℕ) (needs : Purpose) (block : ℕ) (w : WriterState) (m : List ℕ) (p : Progress) : Type 0 where
-  pub goes : GoesFrom needs block (progress_at list w m) p
+pub record Gone (list : List ℕ) (bare : Bool) (needs : Purpose) (w : WriterState) (m : List ℕ) (p : Progress) : Type 0 where
+  pub goes : GoesFrom bare needs (progress_at list w m) p
   pub same : p.items.bytes ≡ list
   pub inside : p.items.index ≤ length list
 
-pub gone_none : (list : List ℕ) (needs : Purpose) (block : ℕ) (w : WriterState) (m : List ℕ) (d : Decoder) (left : LeftOut) → d ≡ record { bytes = list; index = 0 }
-    → left ≡ nothing_left_out → Gone list needs block w m (progress d w m left)
-gone_none list needs block w m d left is same =
-    subst (λ e. Gone list needs block w m (progress e w m left)) (sym is)
-    (subst (λ l. Gone list needs block w m (progress (at_offset list 0) w m l)) (sym same) (record { goes = here; same = refl; inside = omega arith }))
+pub gone_none : (list : List ℕ) (bare : Bool) (needs : Purpose) (w : WriterState) (m : List ℕ) (d : Decoder) (left : LeftOut) → d ≡ record { bytes = list; index = 0 }
+    → left ≡ nothing_left_out → Gone list bare needs w m (progress d w m left)
+gone_none list bare needs w m d left is same =
+    subst (λ e. Gone list bare needs w m (progress e w m left)) (sym is)
+    (subst (λ l. Gone list bare needs w m (progress (at_offset list 0) w m l)) (sym same) (record { goes = here; same = refl; inside = omega arith }))
 
-pub gone_on : {list : List ℕ} {needs : Purpose} {block : ℕ} {w : WriterState} {m : List ℕ} {p : Progress} → Gone list needs block w m p → (q : Progress) → Goes needs block p q
-    → Gone list needs block w m q
-gone_on {list} {needs} {block} {w} {m} {p} g q goes =
-    let onward = goes_onward needs block p q goes in
+pub gone_on : {list : List ℕ} {bare : Bool} {needs : Purpose} {w : WriterState} {m : List ℕ} {p : Progress} → Gone list bare needs w m p → (q : Progress) → Goes bare needs p q
+    → Gone list bare needs w m q
+gone_on {list} {bare} {needs} {w} {m} {p} g q goes =
+    let onward = goes_onward bare needs p q goes in
     let same = onward.same ∙ g.same in
     let inside = onward.inside in
     record { goes = further p q g.goes goes; same = same; inside = omega (arith, inside, ap length same) }
@@ -186,29 +186,6 @@ abbrev pub Leaves : Purpose → ℕ → Section → There → Decoder → LeftOu
 Leaves needs octet s there d left after now =
     (x : RecordValue) × (half : Bool) × TakesListed d octet x after × IsHalved (pairs_left s left) there d.bytes x half
     × (now ≡ left_with needs s octet there half x left)
-
-module _ (needs : Purpose) (block : ℕ) where
-  pub question_goes : (d after : Decoder) (w v : WriterState) (m n : List ℕ) (left : LeftOut)
-      → ((name : List (List ℕ)) × (t : ℕ) × (c : ℕ) × TakesQuestion d name t c after × AddsItem Sections.Queries (question_form slot_of name t c) w m v n)
-      → Goes needs block (progress d w m left) (progress after v n left)
-  question_goes d after w v m n left (name, t, c, takes, adds) = question name t c takes adds refl
-
-  pub last_goes : (d after : Decoder) (w v : WriterState) (m n : List ℕ) (left : LeftOut)
-      → ((x : RecordValue) × TakesListed d last_octet x after × AddsEndItem block x w m v n) → Goes needs block (progress d w m left) (progress after v n left)
-  last_goes d after w v m n left (x, takes, adds) = last x takes adds refl
-
-  -- a record is left out, by what is there of its section
-  pub out_of : (octet : ℕ) (s : Section) (p q : Progress) (there : There) (x : RecordValue) (half : Bool) → there ≡ what_is_there s p
-      → IsHalved (pairs_left s p.left) there p.items.bytes x half → q.left ≡ left_with needs s octet there half x p.left → IsLeftOut needs octet s p x q
-  out_of octet s p q there x half is halved left_is =
-      (half, subst (λ t. IsHalved (pairs_left s p.left) t p.items.bytes x half) is halved, left_is ∙ ap (λ t. left_with needs s octet t half x p.left) is)
-
-  pub passed : (octet r : ℕ) (s : Section) (d after : Decoder) (w : WriterState) (m : List ℕ) (left now : LeftOut) (there : There)
-      → there ≡ what_is_there s (progress d w m left) → IsOctetOf octet s → r ≡ rank s → r ≡ left.closed → Leaves needs octet s there d left after now
-      → Goes needs block (progress d w m left) (progress after w m now)
-  passed octet r s d after w m left now there there_is is rank_is shut (x, half, takes, halved, left_is) =
-      left_out octet s x is (sym rank_is ∙ shut) takes refl refl
-      (out_of octet s (progress d w m left) (progress after w m now) there x half there_is halved left_is)
 
 -- the octet before a record is not that before a question
 pub octet_other : (octet : ℕ) (s : Section) → IsOctetOf octet s → octet ≢ 0
@@ -221,18 +198,51 @@ pub lacks_item : (octet : ℕ) (s : Section) (d : Decoder) (failure : Failure) �
     → LacksListed d × (failure ≡ why.BadItem) → IsNoItem d × (failure ≡ why.BadItem)
 lacks_item octet s d failure is begins (lacks, bad) = (inr (inr (inr (octet, begins, octet_other octet s is, lacks))), bad)
 
-module _ (needs : Purpose) (block octet : ℕ) (s : Section) (p : Progress) (is : IsOctetOf octet s) (ready : rank s ≢ p.left.closed) where
+module _ (bare : Bool) (needs : Purpose) where
+  pub question_goes : (d after : Decoder) (w v : WriterState) (m n : List ℕ) (left : LeftOut)
+      → ((name : List (List ℕ)) × (t : ℕ) × (c : ℕ) × TakesQuestion d name t c after × AddsItem Sections.Queries (question_form slot_of name t c) w m v n)
+      → Goes bare needs (progress d w m left) (progress after v n left)
+  question_goes d after w v m n left (name, t, c, takes, adds) = question name t c takes adds refl
+
+  pub end_goes : (octet : ℕ) (d after : Decoder) (w : WriterState) (m : List ℕ) (left : LeftOut) → PassesEnd bare octet d after true
+      → Goes bare needs (progress d w m left) (progress after w m left)
+  end_goes octet d after w m left passes = comes_last octet passes refl refl refl
+
+  -- a record is left out, by what is there of its section
+  pub out_of : (octet : ℕ) (s : Section) (p q : Progress) (there : There) (x : RecordValue) (half : Bool) → there ≡ what_is_there s p
+      → IsHalved (pairs_left s p.left) there p.items.bytes x half → q.left ≡ left_with needs s octet there half x p.left → IsLeftOut needs octet s p x q
+  out_of octet s p q there x half is halved left_is =
+      (half, subst (λ t. IsHalved (pairs_left s p.left) t p.items.bytes x half) is halved, left_is ∙ ap (λ t. left_with needs s octet t half x p.left) is)
+
+  module _ (octet : ℕ) (s : Section) (d e : Decoder) (w : WriterState) (m : List ℕ) (left : LeftOut) (no_end : PassesEnd bare octet d e false)
+      (is : IsOctetOf octet s) where
+    -- nothing was passed, and then a record is left out
+    pub passed : (r : ℕ) (after : Decoder) (now : LeftOut) (there : There) → there ≡ what_is_there s (progress e w m left) → r ≡ rank s
+        → r ≡ left.closed → Leaves needs octet s there e left after now → Goes bare needs (progress d w m left) (progress after w m now)
+    passed r after now there there_is rank_is shut (x, half, takes, halved, left_is) =
+        let here : TakesListed d octet x after = subst (λ f. TakesListed f octet x after) no_end.0 takes in
+        left_out octet s x is (sym rank_is ∙ shut) here (no_end.1 x after here) refl refl
+        (out_of octet s (progress d w m left) (progress after w m now) there x half
+        (subst (λ f. there ≡ what_is_there s (progress f w m left)) no_end.0 there_is)
+        (subst (λ (f : Decoder). IsHalved (pairs_left s left) there f.bytes x half) no_end.0 halved) left_is)
+
+    -- or none is next
+    pub passed_none : (failure : Failure) → BeginsWithOctet d octet → LacksListed e × (failure ≡ why.BadItem)
+        → FailsToGo needs (progress d w m left) failure
+    passed_none failure begins (lacks, bad) = inl (lacks_item octet s d failure is begins (subst LacksListed no_end.0 lacks, bad))
+
+module _ (bare : Bool) (needs : Purpose) (octet : ℕ) (s : Section) (p : Progress) (is : IsOctetOf octet s) (ready : rank s ≢ p.left.closed) where
   pub set_left_out : (after : Decoder) (failure : Failure) (u : WriterState) (o : List ℕ) (now : LeftOut) (there : There) → there ≡ what_is_there s p
       → FailsToAddRecords p.items octet s p.state p.message failure ⊎ ((failure ≡ why.BadItem) × LacksListed p.items)
       → failure ≡ why.MessageTooLong → is_uncut needs ≡ false → StaysAsItWas p.state p.message u o
-      → Leaves needs octet s there p.items p.left after now → Goes needs block p (progress after u o now)
+      → Leaves needs octet s there p.items p.left after now → Goes bare needs p (progress after u o now)
   set_left_out after failure u o now there there_is (inl fails) long cut back (x, half, takes, halved, left_is) =
       no_room octet s x is ready (subst (FailsToAddRecords p.items octet s p.state p.message) long fails) cut back takes
-      (out_of needs block octet s p (progress after u o now) there x half there_is halved left_is)
+      (out_of bare needs octet s p (progress after u o now) there x half there_is halved left_is)
   set_left_out after failure u o now there there_is (inr (bad, other)) long cut back left_is = let clash = sym bad ∙ long in absurd cc
 
   pub set_fails : (failure : Failure) → BeginsWithOctet p.items octet
       → FailsToAddRecords p.items octet s p.state p.message failure ⊎ ((failure ≡ why.BadItem) × LacksListed p.items)
-      → (failure ≡ why.MessageTooLong → is_uncut needs ≡ true) → FailsToGo needs block p failure
-  set_fails failure begins (inl fails) uncut = inr (inr (inl (octet, s, is, ready, fails, uncut)))
+      → (failure ≡ why.MessageTooLong → is_uncut needs ≡ true) → FailsToGo needs p failure
+  set_fails failure begins (inl fails) uncut = inr (inr (octet, s, is, ready, fails, uncut))
   set_fails failure begins (inr (bad, lacks)) uncut = inl (lacks_item octet s p.items failure is begins (lacks, bad))

@@ -8,7 +8,8 @@ use Rattle.dnw_message_writer.specs.declared.state.WriterState.{WriterState}
 use Rattle.dnw_c_base.specs.Offsets.{at_offset}
 use Rattle.dnw_c_base.specs.declared.failure.Failure.{Failure}
 use Rattle.dnw_c_base.specs.declared.failure.Failure.TheVariants as why
-use Rattle.dnw_c_messages.specs.ListCalls.{AddsListed, BeginsWithOctet, FailsToAddListed, IsOctetOf, LacksListed, TakesListed}
+use Rattle.dnw_c_messages.specs.ListCalls.{BeginsWithOctet, IsOctetOf, LacksListed, TakesListed}
+use Rattle.dnw_c_messages.specs.ListEnds.{AddsListed, FailsToAddListed}
 use Rattle.dnw_c_messages.specs.WriterCalls.{StaysAsItWas}
 
 -- The next item of a list is a record, and is added to its section.

@@ -4,6 +4,7 @@ pub mod OptionValues
 pub mod FieldCalls
 pub mod FillCalls
 pub mod ListCalls
+pub mod ListEnds
 pub mod MessageCalls
 pub mod PackCalls
 pub mod Packed

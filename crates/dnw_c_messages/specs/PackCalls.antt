@@ -1,5 +1,5 @@
 -- What the function for C puts that writes a message again, and why it puts nothing.
-use Rattle.std.specs.Prelude.{◌≡◌, ◌⊎◌, ℕ, ◌<◌, ◌≤◌, List, length, Result, MatchResult}
+use Rattle.std.specs.Prelude.{◌≡◌, ◌⊎◌, ℕ, ◌<◌, ◌≤◌, min, List, length, Result, MatchResult}
 use Rattle.dnw_c_base.specs.Failures.{of_decode}
 use Rattle.dnw_c_base.specs.declared.failure.Failure.{Failure}
 use Rattle.dnw_c_base.specs.declared.failure.Failure.TheVariants as why
@@ -7,7 +7,8 @@ use Rattle.dnw_base.specs.Limits.{max_pointers}
 use Rattle.dnw_message_read.specs.Headers.{header_size}
 use Rattle.dnw_message_read.specs.Messages.{FailsMessage, MessageAt, MessageValue}
 use Rattle.dnw_message_read.specs.declared.error.MessageError.{MessageError}
-use Rattle.dnw_message_writer.specs.Copying.{CopiesMessage, FailsToCopyMessage}
+use Rattle.dnw_message_writer.specs.Edns.{most_block}
+use Rattle.dnw_message_writer.specs.Padded.{CopiesPadded, FailsToCopyPadded}
 use Rattle.dnw_message_writer.specs.declared.copying.CopyError.{CopyError}
 use Rattle.dnw_message_writer.specs.declared.copying.CopyError.TheVariants.{Data, Edns, Memory, TooManyPointers, Write}
 use Rattle.dnw_message_writer.specs.declared.state.WriterState.{WriterState}
@@ -29,19 +30,20 @@ of_copy (Write error) = of_write error
 of_copy TooManyPointers = why.TooManyPointers
 of_copy Memory = why.NoMemory
 
--- The octets begin with a message, and it is copied, in at most so many octets.
-abbrev pub PutsCopy : List ℕ → ℕ → List ℕ → List ℕ → PackedMessage → Type 0
-PutsCopy octets most old new packed =
-    (m : MessageValue) × (w : WriterState) × IsReadMessage octets m × CopiesMessage m most old w new
+-- The octets begin with a message, and it is copied, in at most so many octets, padded to a multiple of a block.
+abbrev pub PutsCopy : List ℕ → ℕ → ℕ → List ℕ → List ℕ → PackedMessage → Type 0
+PutsCopy octets most block old new packed =
+    (m : MessageValue) × (w : WriterState) × IsReadMessage octets m × CopiesPadded m most (min block most_block) old w new
     × (packed ≡ record { len = w.end; truncated = is_cut new })
 
 -- They begin with no message, or the buffer has no room for a header, or the message is not copied.
-abbrev pub FailsToPack : List ℕ → ℕ → List ℕ → Failure → Type 0
-FailsToPack octets most old failure =
+abbrev pub FailsToPack : List ℕ → ℕ → ℕ → List ℕ → Failure → Type 0
+FailsToPack octets most block old failure =
     ((error : MessageError) × FailsMessage octets max_pointers error × (failure ≡ of_message error.kind))
     ⊎ ((length old < header_size) × (failure ≡ why.NoRoom))
-    ⊎ ((m : MessageValue) × (error : CopyError) × IsReadMessage octets m × FailsToCopyMessage m most old error × (failure ≡ of_copy error))
+    ⊎ ((m : MessageValue) × (error : CopyError) × IsReadMessage octets m × FailsToCopyPadded m most (min block most_block) old error
+    × (failure ≡ of_copy error))
 
 -- The copy is put, and what C learns of it is the value.
-abbrev pub PacksMessage : List ℕ → ℕ → List ℕ → List ℕ → Result PackedMessage Failure → Type 0
-PacksMessage octets most old new result = MatchResult result (PutsCopy octets most old new) (FailsToPack octets most old)
+abbrev pub PacksMessage : List ℕ → ℕ → ℕ → List ℕ → List ℕ → Result PackedMessage Failure → Type 0
+PacksMessage octets most block old new result = MatchResult result (PutsCopy octets most block old new) (FailsToPack octets most block old)

@@ -4,7 +4,7 @@ use Rattle.dnw_base.specs.Limits.{min_payload}
 use Rattle.dnw_c_base.specs.WireForms.{IsFormOf, IsNoForm}
 use Rattle.dnw_c_base.specs.declared.failure.Failure.{Failure}
 use Rattle.dnw_c_base.specs.declared.failure.Failure.TheVariants as why
-use Rattle.dnw_message_writer.specs.Edns.{AddsOpt, FailsToAddOpt}
+use Rattle.dnw_message_writer.specs.Edns.{AddsOpt, FailsToAddOpt, most_block}
 use Rattle.dnw_message_writer.specs.Listed.{FailsListed, ListsData, data_form}
 use Rattle.dnw_message_writer.specs.Sets.{AddsSet, CutsOff}
 use Rattle.dnw_message_writer.specs.States.{released}
@@ -74,10 +74,6 @@ pub record Says (max_payload rcode_high version : ℕ) (dnssec_ok : Bool) (optio
   pub version_is : e.version ≡ version
   pub wants : e.dnssec_ok ≡ dnssec_ok
   pub others : e.options.now ≡ options
-
--- at most this block
-abbrev pub most_block : ℕ
-most_block = 512
 
 abbrev pub AddsEdns : ℕ → ℕ → ℕ → ℕ → Bool → List ℕ → ℕ → WriterState → List ℕ → WriterState → List ℕ → Type 0
 AddsEdns held max_payload rcode_high version dnssec_ok options block before old after new =

@@ -3,8 +3,9 @@ ghost use Rattle.std.specs.Prelude.{false};
 ghost use Rattle.dnw_c_base.specs.Offsets.{at_offset};
 ghost use Rattle.dnw_c_messages.specs.ListCalls.{IsHalfListed, IsHalved};
 
+use crate::ends::is_put_last;
 use crate::filling::list_at;
-use crate::listed::read_record;
+use crate::listed::{octet_at, read_record};
 use dnw_message_writer::halves::{are_the_same, or_halves};
 use dnw_record::record_ref::RecordRef;
 
@@ -29,9 +30,9 @@ pub(crate) fn is_halved(pairs: u16, there: There, list: &[u8], item: &RecordRef<
 }
 
 /// Returns `true` if one of so many records of a list, from an offset on, halves the set of another that is left out, and none of them
-/// is the same.
+/// is the same. Those that come last do not count.
 fn is_half_listed(count: u16, list: &[u8], start: usize, item: &RecordRef<'_>) -> bool
-    ensures { IsHalfListed count (at_offset list.now start) item.now false result }
+    ensures { IsHalfListed item.now count (at_offset list.now start) false result }
 {
     if count == 0 {
         return false;
@@ -45,9 +46,13 @@ fn is_half_listed(count: u16, list: &[u8], start: usize, item: &RecordRef<'_>) -
         if decoder.is_empty() {
             return true;
         }
+        let octet = octet_at(&decoder);
         let Ok(record) = read_record(&mut decoder) else {
             return true;
         };
+        if is_put_last(octet, &record) {
+            continue;
+        }
         if are_the_same(&record, item) {
             return false;
         }

@@ -10,6 +10,8 @@
 #![tactic(auto)]
 /// What messages say by EDNS.
 pub mod edns;
+/// The records of a list that come last in its message.
+mod ends;
 /// The fields of the data of records.
 pub mod fields;
 /// Records of a list, as many as a message has room for.

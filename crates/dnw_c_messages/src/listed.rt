@@ -1,23 +1,22 @@
 //! Lists of the items of a message.
-ghost use Rattle.std.specs.Prelude.{◌≡◌, ◌≢◌, ◌<◌, length, IfOk, IfErr, IfSome, IfNone};
+ghost use Rattle.std.specs.Prelude.{◌≡◌, ◌≢◌, ◌<◌, ◌||◌, ◌↔◌, length, IsTrue, IfOk, IfErr, IfSome, IfNone, OnOk};
 ghost use Rattle.dnw_base.specs.Decoder.{advanced};
 ghost use Rattle.dnw_record.specs.Records.{TakesRecord};
-ghost use Rattle.dnw_message_writer.specs.Copying.{AreOfOneSet};
 ghost use Rattle.dnw_c_base.specs.declared.failure.Failure.TheVariants.{BadItem};
-ghost use Rattle.dnw_c_messages.specs.ListCalls.{BeginsWithOctet, IsBadList, IsNoItem, IsNoneOfSet, IsNoOctet, IsOctetOf, IsRecordOctet, LacksListed, ScansItem, ScansList, TakesListed, TakesQuestion, held_with, place_of, question_octet, whole_item};
+ghost use Rattle.dnw_c_messages.specs.ListCalls.{BeginsWithOctet, FailsToScan, IsBadList, IsNoItem, IsNoneOfSet, IsNoOctet, IsOctetOf, IsOfRun, LacksListed, PassesEnd, ScansItem, ScansList, TakesListed, TakesQuestion, place_of, question_octet};
+ghost use Rattle.dnw_c_messages.specs.ListEnds.{is_put_last};
 
+use crate::ends::{Ends, is_put_last};
 use dnw_base::decoder::BinDecoder;
 use dnw_c_base::failure::Failure;
 use dnw_message_writer::copying::is_of_set;
 use dnw_message_writer::needs::Purpose;
 use dnw_message_writer::section::Section;
 use dnw_name::name_ref::NameRef;
-use dnw_record::record_ref::{FIXED_SIZE, RecordRef};
+use dnw_record::record_ref::RecordRef;
 
 /// The octet before a question.
 pub(crate) const QUESTION: u8 = 0;
-/// The octet before one of the last items of a message.
-pub(crate) const LAST: u8 = 67;
 /// What the octet of a record has besides its section if the caller says that the message has to have it.
 pub(crate) const REQUIRED: u8 = 32;
 /// What it has if the caller says that it may be left out.
@@ -34,20 +33,20 @@ pub(crate) struct Question<'l> {
 /// What the items of a list say of their message.
 #[derive(Drop)]
 pub(crate) struct Scan<'l> {
-    /// How many octets the last items have in all, if their names are whole.
-    pub(crate) held: usize,
+    /// The records that come last.
+    pub(crate) ends: Ends<'l>,
     /// What the message is for.
     pub(crate) purpose: Purpose<'l>,
 }
 
 /// Returns what the items of a list say of their message, which has these flags.
 pub(crate) fn scan_list(items: &[u8], flags: u16) -> Result<Scan<'_>, Failure>
-    ensures ok { IfOk result (λ found. ScansList items.now flags found.held found.purpose) }
-    ensures err { IfErr result (λ failure. IsBadList items.now flags × (failure ≡ BadItem)) }
+    ensures ok { IfOk result (λ found. ScansList items.now flags found.ends found.purpose) }
+    ensures err { IfErr result (IsBadList items.now flags) }
 {
     let mut decoder = BinDecoder::new(items);
     let mut last = 0;
-    let mut held = 0;
+    let mut ends = Ends::new();
     let mut purpose = Purpose::new(flags);
     'list: while !decoder.is_empty() {
         let octet = octet_at(&decoder);
@@ -55,53 +54,37 @@ pub(crate) fn scan_list(items: &[u8], flags: u16) -> Result<Scan<'_>, Failure>
         if place < last {
             return Err(Failure::BadItem);
         }
-        let size = scan_item(octet, &mut decoder, &mut purpose)?;
+        scan_item(octet, &mut decoder, &mut ends, &mut purpose)?;
         last = place;
-        held = held_with(held, octet, size);
     }
-    Ok(Scan { held, purpose })
+    Ok(Scan { ends, purpose })
 }
 
-/// Reads past an item, which is one more of a message, and returns how many octets it has.
+/// Reads past an item, which is one more of a message.
 fn scan_item<'l>(
     octet: u8,
     decoder: &mut BinDecoder<'l>,
+    ends: &mut Ends<'l>,
     purpose: &mut Purpose<'l>,
-) -> Result<usize, Failure>
+) -> Result<(), Failure>
     requires { BeginsWithOctet decoder.old octet }
-    ensures ok { IfOk result (λ size. ScansItem octet decoder.old purpose.old size decoder.new purpose.new) }
-    ensures err { IfErr result (λ failure. IsNoItem decoder.old × (failure ≡ BadItem)) }
+    ensures ok { OnOk result (ScansItem octet decoder.old ends.old purpose.old decoder.new ends.new purpose.new) }
+    ensures err { IfErr result (FailsToScan octet decoder.old ends.old) }
 {
     if octet == QUESTION {
         let question = read_question(decoder)?;
         purpose.ask(question.query_type);
-        return Ok(0);
-    }
-    if octet == LAST {
-        return scan_record(Section::Additionals, octet, decoder, purpose);
+        return Ok(());
     }
     let Some(section) = section_after(octet) else {
         return Err(Failure::BadItem);
     };
-    scan_record(section, octet, decoder, purpose)
-}
-
-/// Reads past a record of a section, which is one more of a message, and returns how many octets it has.
-fn scan_record<'l>(
-    section: Section,
-    octet: u8,
-    decoder: &mut BinDecoder<'l>,
-    purpose: &mut Purpose<'l>,
-) -> Result<usize, Failure>
-    requires begins { BeginsWithOctet decoder.old octet }
-    requires octet { IsRecordOctet octet section }
-    ensures ok { IfOk result (λ size. ScansItem octet decoder.old purpose.old size decoder.new purpose.new) }
-    ensures err { IfErr result (λ failure. LacksListed decoder.old × (failure ≡ BadItem)) }
-{
     let record = read_record(decoder)?;
-    let size = whole_item(&record);
+    if is_put_last(octet, &record) {
+        return ends.take(record);
+    }
     purpose.take(section, record);
-    Ok(size)
+    Ok(())
 }
 
 /// Returns the octet before the next item.
@@ -150,35 +133,17 @@ pub(crate) fn read_record<'l>(decoder: &mut BinDecoder<'l>) -> Result<RecordRef<
     Ok(record)
 }
 
-/// Returns how many octets a record has, if its names are whole.
-pub(crate) fn whole_item(item: &RecordRef<'_>) -> usize
-    ensures { result ≡ whole_item item.now }
-{
-    item.owner().encoded_len() + FIXED_SIZE + item.rdata().len()
-}
-
-/// Returns how many octets are held back, with those of an item if it is one of the last.
-fn held_with(held: usize, octet: u8, size: usize) -> usize
-    ensures { result ≡ held_with held octet size }
-{
-    if octet == LAST {
-        held.saturating_add(size)
-    } else {
-        held
-    }
-}
-
 /// Returns the place of an item in the order of a list.
 fn place_of(octet: u8) -> u8
     ensures { result ≡ place_of octet }
 {
-    if octet == LAST { 4 } else { octet % 4 }
+    octet % 4
 }
 
-/// Returns the section of a record by the octet before it, if that is not one of the last items.
+/// Returns the section of a record by the octet before it.
 pub(crate) fn section_after(octet: u8) -> Option<Section>
     ensures some { IfSome result (IsOctetOf octet) }
-    ensures none { IfNone result (octet ≢ question_octet → octet ≢ 67 → IsNoOctet octet) }
+    ensures none { IfNone result (octet ≢ question_octet → IsNoOctet octet) }
 {
     match octet {
         1 | 33 | 129 => Some(Section::Answers),
@@ -205,7 +170,7 @@ pub(crate) fn next_of_set<'l>(
     first: &RecordRef<'_>,
     decoder: &mut BinDecoder<'l>,
 ) -> Option<RecordRef<'l>>
-    ensures some { IfSome result (λ x. TakesListed decoder.old octet x decoder.new × AreOfOneSet first.now x) }
+    ensures some { IfSome result (λ x. TakesListed decoder.old octet x decoder.new × IsOfRun octet first.now x) }
     ensures none { IfNone result (IsNoneOfSet decoder.old octet first.now × (decoder.new ≡ decoder.old)) }
 {
     let left = decoder.len();
@@ -221,9 +186,39 @@ pub(crate) fn next_of_set<'l>(
         Ok(record) => record,
         Err(_) => return None,
     };
-    if !is_of_set(first, &record) {
+    if !is_of_run(octet, first, &record) {
         return None;
     }
     *decoder = ahead;
     Some(record)
+}
+
+/// Reads past a record after this octet if it comes last, or any if the message is bare. Returns `true` if so; if not, the cursor is
+/// unchanged.
+pub(crate) fn pass_end(bare: bool, octet: u8, decoder: &mut BinDecoder<'_>) -> Result<bool, Failure>
+    requires { BeginsWithOctet decoder.old octet }
+    ensures ok { IfOk result (PassesEnd bare octet decoder.old decoder.new) }
+    ensures err { IfErr result (λ failure. LacksListed decoder.old × (failure ≡ BadItem)) }
+{
+    let mut ahead = again(decoder);
+    let record = read_record(&mut ahead)?;
+    if !is_passed(bare, octet, &record) {
+        return Ok(false);
+    }
+    *decoder = ahead;
+    Ok(true)
+}
+
+/// Returns `true` if a record after this octet comes last, and for any of a bare message.
+fn is_passed(bare: bool, octet: u8, item: &RecordRef<'_>) -> bool
+    ensures { result ≡ (bare || is_put_last octet item.now) }
+{
+    bare || is_put_last(octet, item)
+}
+
+/// Returns `true` if a record after this octet goes with the first one of its set.
+fn is_of_run(octet: u8, first: &RecordRef<'_>, item: &RecordRef<'_>) -> bool
+    ensures { IsTrue result ↔ IsOfRun octet first.now item.now }
+{
+    !is_put_last(octet, item) && is_of_set(first, item)
 }

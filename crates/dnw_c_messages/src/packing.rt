@@ -16,18 +16,26 @@ use dnw_message_writer::state::WriterState;
 use std::alloc::Global;
 
 /// Puts a copy of the message at the start of these octets, with compression, in at most `max_size` octets. A set of records that has
-/// no room is left out, and the later ones of its section; then TC is set, unless it only goes with answers.
+/// no room is left out, and the later ones of its section; then TC is set, unless it only goes with answers. If `block` is not 0, its
+/// `OPT` record pads it to a multiple of so many octets.
 #[unsafe(no_mangle)]
 pub extern "C" fn dnw_message_pack(
     alloc: Global,
     message: &[u8],
     max_size: u16,
+    block: u16,
     packed: &mut [u8],
     found: &mut PackedMessage,
 ) -> u32
-    ensures { Returns (PacksMessage message.now max_size packed.old packed.new) found.old found.new result }
+    ensures { Returns (PacksMessage message.now max_size block packed.old packed.new) found.old found.new result }
 {
-    let copied = pack(alloc, message, usize::from(max_size), packed);
+    let copied = pack(
+        alloc,
+        message,
+        usize::from(max_size),
+        usize::from(block),
+        packed,
+    );
     report(copied, found)
 }
 
@@ -36,9 +44,10 @@ fn pack(
     alloc: Global,
     octets: &[u8],
     max_size: usize,
+    block: usize,
     packed: &mut [u8],
 ) -> Result<PackedMessage, Failure>
-    ensures { PacksMessage octets.now max_size packed.old packed.new result }
+    ensures { PacksMessage octets.now max_size block packed.old packed.new result }
 {
     let message = match MessageRef::read(octets) {
         Ok(message) => message,
@@ -48,7 +57,7 @@ fn pack(
         return Err(Failure::NoRoom);
     }
     let mut writer = WriterState::new();
-    if let Err(error) = writer.copy(alloc, packed, &message, max_size) {
+    if let Err(error) = writer.copy_padded(alloc, packed, &message, max_size, block) {
         return Err(of_copy(&error));
     }
     Ok(PackedMessage {

@@ -13,25 +13,24 @@ ghost use Rattle.dnw_message_writer.specs.declared.section.Section.TheVariants a
 ghost use Rattle.dnw_message_writer.specs.declared.state.WriterState.{WriterState};
 ghost use Rattle.dnw_c_base.specs.Results.{Returns};
 ghost use Rattle.dnw_c_base.specs.declared.failure.Failure.TheVariants.{BadItem};
-ghost use Rattle.dnw_c_messages.specs.ListCalls.{AddsEndItem, AddsListed, AddsPadded, AddsRecords, BeginsWithOctet, FailsToAddEndItem, FailsToAddListed, FailsToAddPadded, FailsToAddRecords, FailsToGo, Goes, GoesFrom, IsHalved, IsNoItem, IsOctetOf, LacksListed, Progress, TakesListed, TakesQuestion, WritesListOr, has_to_be_there, is_padded, is_server_out, last_octet, left_with, pairs_left, progress, progress_at, question_octet, what_is_there};
+ghost use Rattle.dnw_c_messages.specs.ListCalls.{AddsRecords, BeginsWithOctet, FailsToAddRecords, FailsToGo, Goes, GoesFrom, IsHalved, IsNoEnd, IsNoItem, IsOctetOf, LacksListed, Progress, TakesListed, TakesQuestion, WritesListOr, has_to_be_there, is_bare, is_server_out, left_with, pairs_left, progress, progress_at, question_octet, what_is_there, with_code};
+ghost use Rattle.dnw_c_messages.specs.ListEnds.{AddsListed, FailsToAddListed};
 ghost use Rattle.dnw_c_messages.specs.WriterCalls.{FailsToAddItem, StaysAsItWas};
 ghost use Rattle.dnw_c_messages.specs.declared.writing.LeftOut.{LeftOut};
 
 use crate::halved::{MOST_PAIRS, There, is_halved};
 use crate::listed::{
-    LAST, OPTIONAL, QUESTION, REQUIRED, again, next_of_set, octet_at, read_question, read_record,
-    scan_list, section_after, whole_item,
+    OPTIONAL, QUESTION, REQUIRED, again, next_of_set, octet_at, pass_end, read_question,
+    read_record, scan_list, section_after,
 };
 use crate::packed::{PackedMessage, is_cut};
-use crate::sets::add_edns;
 use crate::writer::{add_owned, begin, of_write};
 use dnw_base::decoder::BinDecoder;
 use dnw_base::limits::MAX_NAME;
-use dnw_base::record_type::RecordType;
 use dnw_c_base::failure::Failure;
 use dnw_c_base::results::report;
-use dnw_message_writer::hints::SLOTS;
 use dnw_message_writer::needs::{Purpose, is_server};
+use dnw_message_writer::reply::{most_code, takes_records};
 use dnw_message_writer::section::Section;
 use dnw_message_writer::standing::FIRST_ITEM;
 use dnw_message_writer::state::WriterState;
@@ -49,21 +48,35 @@ pub(crate) struct LeftOut {
     start: usize,
 }
 
-/// Puts a message of the items of a list. Sets of records that have no room are left out of a response, but for one to a transfer. If
-/// `block` is not 0, its `OPT` record pads it to a multiple of so many octets.
+/// Puts a message of the items of a list, with a response code, of which the header has the low four bits and the `OPT` record the
+/// others. Sets of records that have no room are left out of a response, but for one to a transfer. `OPT`, and then TSIG or SIG(0), come
+/// last. A reply with FORMERR, NOTIMP or BADVERS has no other records, if `is_reply` is true. If `block` is not 0, the `OPT` record pads
+/// the message to a multiple of so many octets.
 #[unsafe(no_mangle)]
 pub extern "C" fn dnw_message_write(
     items: &[u8],
     max_size: usize,
     id: u16,
     flags: u16,
+    response_code: u16,
+    is_reply: bool,
     block: u16,
     message: &mut [u8],
     written: &mut PackedMessage,
 ) -> u32
-    ensures { Returns (WritesListOr items.now max_size id flags block message.old message.new) written.old written.new result }
+    ensures { Returns (WritesListOr items.now max_size id flags response_code is_reply block message.old message.new) written.old written.new result }
 {
-    report(write(items, max_size, id, flags, block, message), written)
+    let put = write(
+        items,
+        max_size,
+        id,
+        flags,
+        response_code,
+        is_reply,
+        block,
+        message,
+    );
+    report(put, written)
 }
 
 /// Puts a message of the items of a list.
@@ -72,30 +85,29 @@ fn write(
     max_size: usize,
     id: u16,
     flags: u16,
+    code: u16,
+    is_reply: bool,
     block: u16,
     message: &mut [u8],
 ) -> Result<PackedMessage, Failure>
-    ensures { WritesListOr items.now max_size id flags block message.old message.new result }
+    ensures { WritesListOr items.now max_size id flags code is_reply block message.old message.new result }
 {
     let scan = scan_list(items, flags)?;
+    if code > most_code(scan.ends.opt.is_some()) {
+        return Err(Failure::BadItem);
+    }
     if message.len() < FIRST_ITEM {
         return Err(Failure::NoRoom);
     }
     if max_size < FIRST_ITEM {
         return Err(Failure::MessageTooLong);
     }
-    let mut writer = WriterState {
-        end: 0,
-        max_size: 0,
-        reserved: 0,
-        owner: 0,
-        rank: 0,
-        has_opt: 0,
-        hints: [0; SLOTS],
-    };
-    begin(message, max_size, id, flags, &mut writer)?;
-    writer.reserved = scan.held;
-    let missing = write_items(items, &scan.purpose, block, message, &mut writer)?;
+    let mut writer = WriterState::new();
+    begin(message, max_size, id, with_code(flags, code), &mut writer)?;
+    writer.reserved = scan.ends.held();
+    let bare = is_bare(is_reply, code);
+    let missing = write_items(items, bare, &scan.purpose, message, &mut writer)?;
+    scan.ends.write(code, block, message, &mut writer)?;
     finish(message, missing);
     let truncated = is_cut(message);
     Ok(PackedMessage {
@@ -104,20 +116,34 @@ fn write(
     })
 }
 
+/// Returns `true` if a message has no records but those that come last.
+fn is_bare(is_reply: bool, code: u16) -> bool
+    ensures { result ≡ is_bare is_reply code }
+{
+    is_reply && !takes_records(code)
+}
+
+/// Returns flags with the low four bits of a response code.
+fn with_code(flags: u16, code: u16) -> u16
+    ensures { result ≡ with_code flags code }
+{
+    flags / 16 * 16 + code % 16
+}
+
 /// Writes the items of a list. Returns `true` if a record is left out that the message has to have.
 fn write_items(
     items: &[u8],
+    bare: bool,
     purpose: &Purpose<'_>,
-    block: u16,
     message: &mut [u8],
     writer: &mut WriterState,
 ) -> Result<bool, Failure>
     requires { 12 ≤ length message.old }
     ensures ok { IfOk result (λ missing. (d : Decoder) × (left : LeftOut)
-        × GoesFrom purpose.now block (progress_at items.now writer.old message.old) (progress d writer.new message.new left)
+        × GoesFrom bare purpose.now (progress_at items.now writer.old message.old) (progress d writer.new message.new left)
         × (missing ≡ left.missing) × (d.index ≡ length items.now)) }
-    ensures err { IfErr result (λ failure. (p : Progress) × GoesFrom purpose.now block (progress_at items.now writer.old message.old) p
-        × FailsToGo purpose.now block p failure) }
+    ensures err { IfErr result (λ failure. (p : Progress) × GoesFrom bare purpose.now (progress_at items.now writer.old message.old) p
+        × FailsToGo purpose.now p failure) }
 {
     let mut decoder = BinDecoder::new(items);
     let mut left = LeftOut {
@@ -128,15 +154,16 @@ fn write_items(
         start: 0,
     };
     'list: while !decoder.is_empty() {
-        write_next(purpose, block, &mut decoder, message, writer, &mut left)?;
+        write_next(bare, purpose, &mut decoder, message, writer, &mut left)?;
     }
     Ok(left.missing)
 }
 
-/// Writes the next items of a list: a question, the records of a set, or one of the last items.
+/// Writes the next items of a list: a question, or the records of a set. What comes last is passed, and each record of a
+/// bare message.
 fn write_next(
+    bare: bool,
     purpose: &Purpose<'_>,
-    block: u16,
     decoder: &mut BinDecoder<'_>,
     message: &mut [u8],
     writer: &mut WriterState,
@@ -144,23 +171,24 @@ fn write_next(
 ) -> Result<(), Failure>
     requires left { decoder.old.index < length decoder.old.bytes }
     requires long { 12 ≤ length message.old }
-    ensures ok { OnOk result (Goes purpose.now block (progress decoder.old writer.old message.old left.old) (progress decoder.new writer.new message.new left.new)) }
-    ensures err { IfErr result (FailsToGo purpose.now block (progress decoder.old writer.old message.old left.old)) }
+    ensures ok { OnOk result (Goes bare purpose.now (progress decoder.old writer.old message.old left.old) (progress decoder.new writer.new message.new left.new)) }
+    ensures err { IfErr result (FailsToGo purpose.now (progress decoder.old writer.old message.old left.old)) }
 {
     let octet = octet_at(decoder);
     if octet == QUESTION {
         return write_question(decoder, message, writer);
     }
-    if octet == LAST {
-        return write_last(block, decoder, message, writer);
-    }
     let Some(section) = section_after(octet) else {
         return Err(Failure::BadItem);
     };
+    let passed = pass_end(bare, octet, decoder)?;
+    if passed {
+        return Ok(());
+    }
     let there = what_is_there(section, decoder, message, writer, *left);
     if section.rank() != left.closed {
         return write_set(
-            purpose, block, octet, section, there, decoder, message, writer, left,
+            bare, purpose, octet, section, there, decoder, message, writer, left,
         );
     }
     leave_out(purpose, octet, section, there, decoder, left)
@@ -243,74 +271,11 @@ fn write_question(
     }
 }
 
-/// Writes one of the last items.
-fn write_last(
-    block: u16,
-    decoder: &mut BinDecoder<'_>,
-    message: &mut [u8],
-    writer: &mut WriterState,
-) -> Result<(), Failure>
-    requires { BeginsWithOctet decoder.old last_octet }
-    ensures ok { OnOk result ((x : RecordValue) × TakesListed decoder.old last_octet x decoder.new
-        × AddsEndItem block x writer.old message.old writer.new message.new) }
-    ensures err { IfErr result (λ failure. (IsNoItem decoder.old × (failure ≡ BadItem))
-        ⊎ ((x : RecordValue) × (after : Decoder) × TakesListed decoder.old last_octet x after
-        × FailsToAddEndItem block x writer.old message.old failure)) }
-{
-    let record = read_record(decoder)?;
-    if is_padded(block, &record) {
-        return add_padded(block, &record, message, writer);
-    }
-    writer.forget_names(whole_item(&record));
-    match add_listed(Section::Additionals, &record, message, writer) {
-        Ok(()) => Ok(()),
-        Err(failure) => Err(failure),
-    }
-}
-
-/// Returns `true` for an `OPT` record that is to be padded.
-fn is_padded(block: u16, item: &RecordRef<'_>) -> bool
-    ensures { result ≡ is_padded block item.now }
-{
-    block > 0
-        && (item.record_type().code() == RecordType::OPT.code() && item.owner().encoded_len() == 1)
-}
-
-/// Adds an `OPT` record, with the option for padding.
-fn add_padded(
-    block: u16,
-    item: &RecordRef<'_>,
-    message: &mut [u8],
-    writer: &mut WriterState,
-) -> Result<(), Failure>
-    ensures ok { OnOk result (AddsPadded block item.now writer.old message.old writer.new message.new) }
-    ensures err { IfErr result (FailsToAddPadded block item.now writer.old message.old) }
-{
-    let held = whole_item(item);
-    let max_payload = u16::from(item.class());
-    let ttl = item.ttl();
-    let added = add_edns(
-        message,
-        held,
-        max_payload,
-        ((ttl >> 24) % 256) as u8,
-        ((ttl >> 16) % 256) as u8,
-        (ttl >> 15) % 2 == 1,
-        item.rdata(),
-        block,
-        writer,
-    );
-    match added {
-        Ok(()) => Ok(()),
-        Err(failure) => Err(failure),
-    }
-}
-
 /// Writes the records of a set. If they have no room, those that were written are taken back, as if the set had not been tried, and
 /// the first is left out, and with it the later records of its section; or it fails if the message is never cut.
 fn write_set(
+    bare: bool,
     purpose: &Purpose<'_>,
-    block: u16,
     octet: u8,
     section: Section,
     there: There,
@@ -323,8 +288,9 @@ fn write_set(
     requires begins { BeginsWithOctet decoder.old octet }
     requires octet { IsOctetOf octet section }
     requires open { rank section ≢ left.old.closed }
-    ensures ok { OnOk result (Goes purpose.now block (progress decoder.old writer.old message.old left.old) (progress decoder.new writer.new message.new left.new)) }
-    ensures err { IfErr result (FailsToGo purpose.now block (progress decoder.old writer.old message.old left.old)) }
+    requires no_end { IsNoEnd octet decoder.old }
+    ensures ok { OnOk result (Goes bare purpose.now (progress decoder.old writer.old message.old left.old) (progress decoder.new writer.new message.new left.new)) }
+    ensures err { IfErr result (FailsToGo purpose.now (progress decoder.old writer.old message.old left.old)) }
 {
     let saved = *writer;
     let count = two_at(message, 4 + 2 * usize::from(section.rank()));
@@ -354,7 +320,8 @@ fn add_records(
     message: &mut [u8],
     writer: &mut WriterState,
 ) -> Result<(), Failure>
-    requires { BeginsWithOctet decoder.old octet }
+    requires begins { BeginsWithOctet decoder.old octet }
+    requires no_end { IsNoEnd octet decoder.old }
     ensures ok { OnOk result (AddsRecords decoder.old octet section writer.old message.old decoder.new writer.new message.new) }
     ensures err { IfErr result (λ failure.
         FailsToAddRecords decoder.old octet section writer.old message.old failure

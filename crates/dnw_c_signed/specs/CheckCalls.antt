@@ -1,9 +1,9 @@
 -- What the function for C puts of the findings of a zone, and why it puts none.
 use Rattle.std.specs.Prelude.{◌≡◌, ◌<◌, ◌≤◌, ◌⊎◌, ℕ, List, ◌++◌, length, drop, map, unwrap_or, Result, MatchResult}
 use Rattle.dnw_record.specs.Records.{RecordValue}
-use Rattle.dnw_zone_file.specs.Checks.{AreFindings, OwnersAreInOrder, IsOutOfOrder}
-use Rattle.dnw_zone_file.specs.Findings.{check_number, is_error}
-use Rattle.dnw_zone_file.specs.declared.finding.Finding.{Finding}
+use Rattle.dnw_zone_checks.specs.Checks.{AreFindings, OwnersAreInOrder, IsOutOfOrder}
+use Rattle.dnw_zone_checks.specs.Findings.{check_number, is_error}
+use Rattle.dnw_zone_checks.specs.declared.finding.Finding.{Finding}
 use Rattle.dnw_c_base.specs.Results.{Refuses}
 use Rattle.dnw_c_base.specs.WireForms.{IsFormOf, IsNoForm}
 use Rattle.dnw_c_base.specs.declared.failure.Failure.{Failure}

@@ -7,8 +7,8 @@ use crate::records::records_from;
 use crate::sums::name_of;
 use dnw_c_base::failure::Failure;
 use dnw_c_base::results::report;
-use dnw_zone_file::checks::{CheckError, check_zone};
-use dnw_zone_file::finding::Finding;
+use dnw_zone_checks::checks::{CheckError, check_zone};
+use dnw_zone_checks::finding::Finding;
 use std::alloc::{AllocError, Global};
 
 /// A finding, as C learns it. Numbers that are not there are the greatest ones.

@@ -37,13 +37,13 @@ owner_is form (Some name) is = let (k, at) = is.1 in form_is form name.labels k 
 module _ (zone : ZoneState) (before after : Context) (at : FilePlace) (is : IsContextOf zone before) (fit : NamesFit zone) where
   origin_kept : after.origin ≡ before.origin → with_origin_form (with_state_numbers zone after at) (wire after.origin.labels) ≡ with_state_numbers zone after at
   origin_kept same =
-      let (_, (_, (k, name)), _, _, _, _, _) = is in
+      let (_, (_, (k, name)), _, _, _, _, _, _) = is in
       keep_origin (with_state_numbers zone after at) (wire after.origin.labels) fit.0
       (form_is _ before.origin.labels k name ∙ ap (λ (n : NameValue). wire n.labels) (sym same))
 
   owner_kept : after.owner ≡ before.owner → with_owner_form (with_state_numbers zone after at) (owner_form after.owner) ≡ with_state_numbers zone after at
   owner_kept same =
-      let (name, _, form, labels, _, _, _) = is in
+      let (name, _, form, labels, _, _, _, _) = is in
       keep_owner (with_state_numbers zone after at) (owner_form after.owner) fit.1
       (owner_is _ name form ∙ ap owner_form (sym labels ∙ sym same))
 

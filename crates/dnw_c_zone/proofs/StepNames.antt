@@ -37,9 +37,9 @@ by_record (Some owner) before left entry after (head, r, _, is, so) =
 by_record None before left entry after is = absurd is
 
 -- the owner, by `$ORIGIN` and `$TTL`
-by_directive : (before : Context) (first : List ℕ) (len : ℕ) (rest : List ℕ) (entry : Entry) (after : Context)
-    → IsDirectiveEntry before first len rest entry after → KeepsNames (Ok (IsOne entry)) before after
-by_directive before first len rest entry after is = elim is [
+by_directive : (before : Context) (first line rest : List ℕ) (entry : Entry) (after : Context)
+    → IsDirectiveEntry before first line rest entry after → KeepsNames (Ok (IsOne entry)) before after
+by_directive before first line rest entry after is = elim is [
   | inl origin ↦ let (_, is_nothing, _, _, so) = origin in
       rw is_nothing (record { origin = λ other. absurd cc; owner = λ _. ap (λ (c : Context). c.owner) so })
   | inr (inl ttl) ↦ let (_, is_nothing, _, _, so) = ttl in
@@ -51,20 +51,20 @@ by_kind : (kind : LineKind) (before : Context) (line first rest : List ℕ) (ent
     → IsEntryBy kind before line first rest entry after → KeepsNames (Ok (IsOne entry)) before after
 by_kind Blank before line first rest entry after is = unchanged (Ok (IsOne entry)) before after is.1
 by_kind OwnerBefore before line first rest entry after (owner, _, owned) = by_record owner before line entry after owned
-by_kind Dollar before line first rest entry after is = by_directive before first _ rest entry after is
+by_kind Dollar before line first rest entry after is = by_directive before first line rest entry after is
 by_kind OwnerFirst before line first rest entry after (owner, _, owned) = by_record owner before rest entry after owned
 
-by_entry : (before : Context) (line : List ℕ) (used : ℕ) (step : Step) (after : Context) → IsEntryFound before line used step after
-    → KeepsNames step.found before after
-by_entry before line used step after is = elim is [
+by_entry : (before : Context) (indented : Bool) (line : List ℕ) (used : ℕ) (step : Step) (after : Context)
+    → IsEntryFound before indented line used step after → KeepsNames step.found before after
+by_entry before indented line used step after is = elim is [
   | inl (entry, (kind, first, rest, _, _, _, by), so) ↦ rw so (by_kind kind before line first rest entry after by)
   | inr (error, _, _, same) ↦ unchanged step.found before after same
 ]
 
 by_ending : (before : Context) (text : List ℕ) (more : Bool) (line : List ℕ) (ending : Ending) (step : Step) (after : Context)
     → IsStepAt before text more line ending step after → KeepsNames step.found before after
-by_ending before text more line Line step after is = by_entry before line _ step after is
-by_ending before text false line Text step after is = by_entry before line _ step after is
+by_ending before text more line Line step after is = by_entry before _ line _ step after is
+by_ending before text false line Text step after is = by_entry before _ line _ step after is
 by_ending before text true line Text step after is = unchanged step.found before after is.1
 by_ending before text more line (Cut rule) step after is = unchanged step.found before after is.1
 by_ending before text more line (WrongWords rule) step after is = unchanged step.found before after is.1

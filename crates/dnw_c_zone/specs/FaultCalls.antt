@@ -11,7 +11,7 @@ use Rattle.dnw_zone_data.specs.declared.error.Wanted.TheVariants as wanted
 use Rattle.dnw_zone_data.specs.declared.error.DataTextError.{DataTextError}
 use Rattle.dnw_zone_data.specs.declared.error.DataTextError.TheVariants.{Wanted as WantedAt, Memory as DataMemory}
 use Rattle.dnw_zone_record.specs.RecordEntries.{FailsRecordEntry, IsRecordEntry}
-use Rattle.dnw_zone_record.specs.RecordLines.{FailsDataOf, IsDataOf}
+use Rattle.dnw_zone_record.specs.DataEntries.{FailsDataEntry, IsDataEntry}
 use Rattle.dnw_zone_record.specs.declared.record_line.RecordLineError.{RecordLineError}
 use Rattle.dnw_zone_record.specs.declared.record_line.RecordLineError.TheVariants as lines
 use Rattle.dnw_zone_record.specs.declared.entry.RecordEntryError.{RecordEntryError}
@@ -124,11 +124,11 @@ abbrev pub FindsRecordFault : List ℕ → List ℕ → Result TextFault Failure
 FindsRecordFault text form result =
     FindsTextFault (λ origin. IsRecordEntry origin text) (λ origin. FailsRecordEntry origin text) (fault_of_entry text) form result
 
--- where a text that is data of the class and type with these codes goes wrong
+-- where a text that is data of the class and type with these codes, maybe with comments and parentheses, goes wrong
 abbrev pub FindsDataFault : ℕ → ℕ → List ℕ → List ℕ → Result TextFault Failure → Type 0
 FindsDataFault class code text form result =
-    FindsTextFault (λ origin. IsDataOf origin (class_of_code class) (type_of_code code) text)
-    (λ origin. FailsDataOf origin (class_of_code class) (type_of_code code) (length text) text) (fault_of_line text) form result
+    FindsTextFault (λ origin. IsDataEntry origin (class_of_code class) (type_of_code code) text)
+    (λ origin. FailsDataEntry origin (class_of_code class) (type_of_code code) text) (fault_of_entry text) form result
 
 -- The sentence for a fault is put, or memory ran out.
 abbrev pub PutsSentence : TextFault → List ℕ → List ℕ → Result ℕ Failure → Type 0

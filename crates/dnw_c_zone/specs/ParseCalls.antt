@@ -6,7 +6,7 @@ use Rattle.dnw_base.specs.RecordTypes.{type_of_code}
 use Rattle.dnw_base.specs.declared.dns_class.DNSClass.{DNSClass}
 use Rattle.dnw_base.specs.declared.record_type.RecordType.{RecordType}
 use Rattle.dnw_zone_record.specs.RecordEntries.{FailsRecordEntry, IsRecordEntry}
-use Rattle.dnw_zone_record.specs.RecordLines.{FailsDataOf, IsDataOf}
+use Rattle.dnw_zone_record.specs.DataEntries.{FailsDataEntry, IsDataEntry}
 use Rattle.dnw_zone_record.specs.declared.record_line.RecordLineError.{RecordLineError}
 use Rattle.dnw_zone_record.specs.declared.entry.RecordEntryError.{RecordEntryError}
 use Rattle.dnw_zone_record.specs.declared.entry.RecordEntryError.TheVariants as entries
@@ -58,7 +58,7 @@ of_entry entries.Memory = why.NoMemory
 -- why a text is no data of a class and type
 abbrev pub LacksDataText : Option NameValue → DNSClass → RecordType → List ℕ → Failure → Type 0
 LacksDataText origin class kind text failure =
-    (error : RecordLineError) × FailsDataOf origin class kind (length text) text error × (failure ≡ of_line error)
+    (error : RecordEntryError) × FailsDataEntry origin class kind text error × (failure ≡ of_entry error)
 
 -- why a text is no record
 abbrev pub LacksRecordText : Option NameValue → List ℕ → Failure → Type 0
@@ -76,7 +76,7 @@ PutsParsed Has Lacks form old new result =
 -- The data of the class and type with these codes are put.
 abbrev pub PutsData : ℕ → ℕ → List ℕ → List ℕ → List ℕ → List ℕ → Result ℕ Failure → Type 0
 PutsData class code text form old new result =
-    PutsParsed (λ origin. IsDataOf origin (class_of_code class) (type_of_code code) text)
+    PutsParsed (λ origin. IsDataEntry origin (class_of_code class) (type_of_code code) text)
     (λ origin. LacksDataText origin (class_of_code class) (type_of_code code) text) form old new result
 
 -- The record is put.

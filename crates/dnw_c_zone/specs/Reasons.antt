@@ -6,7 +6,7 @@ use Rattle.dnw_c_zone.specs.declared.reason.Reason.TheVariants as why
 
 -- the table of the reasons: the number in C, and the words of the sentence. From 32 on, a field of data is not as wanted.
 abbrev pub reason_entry : Reason → Entry
-reason_entry why.NestedParenthesis = entry 1 (codes "a parenthesis is opened within parentheses")
+reason_entry why.NestedParenthesis = entry 1 (codes "more than 255 parentheses are open")
 reason_entry why.UnopenedParenthesis = entry 2 (codes "no parenthesis is open")
 reason_entry why.UnclosedParenthesis = entry 3 (codes "the text ends within parentheses")
 reason_entry why.UnclosedQuote = entry 4 (codes "the line ends within a quoted string")
@@ -25,6 +25,9 @@ reason_entry why.NoName = entry 16 (codes "no name is there")
 reason_entry why.NoTime = entry 17 (codes "no time is there")
 reason_entry why.NoFile = entry 18 (codes "no file is there")
 reason_entry why.WordsLeft = entry 19 (codes "more words are there")
+reason_entry why.UnknownType = entry 20 (codes "the type is unknown")
+reason_entry why.OtherType = entry 21 (codes "no zone has records of this type")
+reason_entry why.TimeTooLarge = entry 22 (codes "the time is too large")
 reason_entry why.Name = entry 32 (codes "wanted a name")
 reason_entry why.U8 = entry 33 (codes "wanted a number of at most 255")
 reason_entry why.U16 = entry 34 (codes "wanted a number of at most 65535")

@@ -34,9 +34,11 @@ no_state = record {
   column = 0;
   default_ttl = 0;
   last_ttl = 0;
+  fallback_ttl = 0;
   record_class = 0;
   has_default_ttl = 0;
   has_last_ttl = 0;
+  has_fallback_ttl = 0;
   origin_len = 0;
   owner_len = 0;
   origin = replicate 255 0;
@@ -51,9 +53,11 @@ zone_state_of before context at = record {
   column = at.column;
   default_ttl = or_zero context.default_ttl;
   last_ttl = or_zero context.last_ttl;
+  fallback_ttl = or_zero context.fallback_ttl;
   record_class = class_code context.class;
   has_default_ttl = has_number context.default_ttl;
   has_last_ttl = has_number context.last_ttl;
+  has_fallback_ttl = has_number context.fallback_ttl;
   origin_len = length (wire context.origin.labels);
   owner_len = length (owner_form context.owner);
   origin = put before.origin (wire context.origin.labels);
@@ -80,7 +84,8 @@ abbrev pub IsContextOf : ZoneState → Context → Type 0
 IsContextOf zone context =
     (owner : Option NameValue) × IsOrigin (origin_octets zone) (Some context.origin) × IsOrigin (owner_octets zone) owner
     × (context.owner ≡ labels_of_name owner) × (context.default_ttl ≡ time_of zone.has_default_ttl zone.default_ttl)
-    × (context.last_ttl ≡ time_of zone.has_last_ttl zone.last_ttl) × (context.class ≡ class_of_code zone.record_class)
+    × (context.last_ttl ≡ time_of zone.has_last_ttl zone.last_ttl) × (context.fallback_ttl ≡ time_of zone.has_fallback_ttl zone.fallback_ttl)
+    × (context.class ≡ class_of_code zone.record_class)
 
 -- It says nothing: its origin is no wire form, or its owner is none.
 abbrev pub LacksContext : ZoneState → Type 0

@@ -5,7 +5,7 @@ ghost use Rattle.dnw_base.specs.RecordTypes.{type_of_code};
 ghost use Rattle.dnw_c_base.specs.WireForms.{IsFormOf, IsNoForm};
 ghost use Rattle.dnw_c_base.specs.Results.{Returns};
 ghost use Rattle.dnw_zone_record.specs.RecordEntries.{IsRecordEntry};
-ghost use Rattle.dnw_zone_record.specs.RecordLines.{IsDataOf};
+ghost use Rattle.dnw_zone_record.specs.DataEntries.{IsDataEntry};
 ghost use Rattle.dnw_c_zone.specs.ParseCalls.{IsNoOrigin, IsOrigin, LacksDataText, LacksRecordText, PutsData, PutsParsedRecord, of_entry, of_line, failure_of_rule};
 
 use dnw_base::dns_class::DNSClass;
@@ -16,12 +16,13 @@ use dnw_c_base::names::name_ref_at;
 use dnw_c_base::results::report;
 use dnw_name::name::Name;
 use dnw_name::name_ref::NameRef;
+use dnw_zone_record::data_entry::parse_data;
 use dnw_zone_record::entry::{RecordEntryError, parse_entry};
-use dnw_zone_record::record_line::{RecordLineError, data_of};
+use dnw_zone_record::record_line::RecordLineError;
 use dnw_zone_record::word_error::WordRule;
 use std::alloc::Global;
 
-/// Puts the octets of the data that a text is, for the class and the type with these codes. The origin is a wire form, or no octets for none.
+/// Puts the octets of the data that a text is, with comments and parentheses, for the class and the type with these codes. The origin is a wire form, or no octets for none.
 #[unsafe(no_mangle)]
 pub extern "C" fn dnw_data_parse(
     alloc: Global,
@@ -109,14 +110,14 @@ fn own_data(
     text: &[u8],
     origin: &Option<Name>,
 ) -> Result<Vec<u8>, Failure>
-    ensures ok { IfOk result (λ own. IsDataOf origin.now (class_of_code class) (type_of_code record_type) text.now own.items) }
+    ensures ok { IfOk result (λ own. IsDataEntry origin.now (class_of_code class) (type_of_code record_type) text.now own.items) }
     ensures err { IfErr result (LacksDataText origin.now (class_of_code class) (type_of_code record_type) text.now) }
 {
     let class = DNSClass::from(class);
     let record_type = RecordType::from(record_type);
-    match data_of(alloc, class, record_type, text.len(), text, origin.as_ref()) {
+    match parse_data(alloc, class, record_type, text, origin.as_ref()) {
         Ok(own) => Ok(own),
-        Err(error) => Err(of_line(&error)),
+        Err(error) => Err(of_entry(&error)),
     }
 }
 

@@ -46,6 +46,12 @@ pub enum Reason {
     NoFile,
     /// More is in an entry than it may have.
     WordsLeft,
+    /// The type of a record of a zone file is unknown.
+    UnknownType,
+    /// The type is none of a record of a zone.
+    OtherType,
+    /// A time has too many seconds.
+    TimeTooLarge,
     /// A name; one without a dot at its end if there is an origin.
     Name = 32,
     /// A number of one octet, in decimal.
@@ -137,7 +143,7 @@ pub enum Reason {
 macro_rules! reasons {
     ($rule:ident $asked:expr) => {
         $rule! { $asked =>
-            NestedParenthesis = 1, "a parenthesis is opened within parentheses";
+            NestedParenthesis = 1, "more than 255 parentheses are open";
             UnopenedParenthesis = 2, "no parenthesis is open";
             UnclosedParenthesis = 3, "the text ends within parentheses";
             UnclosedQuote = 4, "the line ends within a quoted string";
@@ -156,6 +162,9 @@ macro_rules! reasons {
             NoTime = 17, "no time is there";
             NoFile = 18, "no file is there";
             WordsLeft = 19, "more words are there";
+            UnknownType = 20, "the type is unknown";
+            OtherType = 21, "no zone has records of this type";
+            TimeTooLarge = 22, "the time is too large";
             Name = 32, "wanted a name";
             U8 = 33, "wanted a number of at most 255";
             U16 = 34, "wanted a number of at most 65535";

@@ -13,8 +13,9 @@ use dnw_c_base::failure::Failure;
 use dnw_c_base::results::report;
 use dnw_zone_data::error::{DataTextError, Wanted};
 use dnw_zone_data::words::split_word;
+use dnw_zone_record::data_entry::parse_data;
 use dnw_zone_record::entry::{RecordEntryError, parse_entry};
-use dnw_zone_record::record_line::{RecordLineError, data_of};
+use dnw_zone_record::record_line::RecordLineError;
 use dnw_zone_record::word_error::WordRule;
 use std::alloc::Global;
 
@@ -110,9 +111,9 @@ fn data_fault(
     };
     let class = DNSClass::from(class);
     let record_type = RecordType::from(record_type);
-    match data_of(alloc, class, record_type, text.len(), text, origin.as_ref()) {
+    match parse_data(alloc, class, record_type, text, origin.as_ref()) {
         Ok(_) => Ok(no_fault()),
-        Err(error) => fault_of_line(text, &error),
+        Err(error) => fault_of_entry(text, &error),
     }
 }
 

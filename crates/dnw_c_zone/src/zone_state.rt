@@ -34,16 +34,20 @@ pub struct ZoneState {
     pub line: usize,
     /// The number of octets after the last line feed.
     pub column: usize,
-    /// The time to live of the last `$TTL`.
+    /// The time to live of the last `$TTL`, or the minimum of an SOA record before which no time to live was stated.
     pub default_ttl: u32,
     /// The last time to live of a record that has one of its own.
     pub last_ttl: u32,
+    /// The time to live of records for which the file states none. The caller may set it.
+    pub fallback_ttl: u32,
     /// The last class of a record that has one of its own, or else `IN`.
     pub record_class: u16,
     /// 0 if there is no `default_ttl`.
     pub has_default_ttl: u8,
     /// 0 if there is no `last_ttl`.
     pub has_last_ttl: u8,
+    /// 0 if there is no `fallback_ttl`.
+    pub has_fallback_ttl: u8,
     /// The number of octets of the origin.
     pub origin_len: u8,
     /// The number of octets of the owner of the last record, or 0 if there is none.
@@ -64,9 +68,11 @@ pub(crate) fn no_state() -> ZoneState
         column: 0,
         default_ttl: 0,
         last_ttl: 0,
+        fallback_ttl: 0,
         record_class: 0,
         has_default_ttl: 0,
         has_last_ttl: 0,
+        has_fallback_ttl: 0,
         origin_len: 0,
         owner_len: 0,
         origin: [0; MAX_NAME],
@@ -130,9 +136,11 @@ fn put_numbers(zone: &mut ZoneState, context: &Context, at: FilePlace)
     zone.column = at.column;
     zone.default_ttl = or_zero(context.default_ttl);
     zone.last_ttl = or_zero(context.last_ttl);
+    zone.fallback_ttl = or_zero(context.fallback_ttl);
     zone.record_class = context.class.code();
     zone.has_default_ttl = has_number(context.default_ttl);
     zone.has_last_ttl = has_number(context.last_ttl);
+    zone.has_fallback_ttl = has_number(context.fallback_ttl);
 }
 
 /// Puts the origin at the front of its room.
@@ -192,6 +200,7 @@ pub(crate) fn fill_context(alloc: Global, context: &mut Context, zone: &ZoneStat
     }
     context.default_ttl = time_of(zone.has_default_ttl, zone.default_ttl);
     context.last_ttl = time_of(zone.has_last_ttl, zone.last_ttl);
+    context.fallback_ttl = time_of(zone.has_fallback_ttl, zone.fallback_ttl);
     context.class = DNSClass::from(zone.record_class);
     true
 }

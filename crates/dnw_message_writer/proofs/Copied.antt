@@ -201,22 +201,22 @@ pub copies_hold : CopiesHold
 copies_hold x max_size old new w long copies =
     let id = x.header.metadata.id in
     let flags = flags_of x.header.metadata in
-    let asked = copies.questions in
+    let asked = copies.body.questions in
     let (has_room, enough, begun_is, first_is) = asked.begins in
     let empty = begun_messages_are_empty id flags max_size old asked.begun asked.first asked.id_fits asked.flags_fit long asked.begins in
     let held : WriterState = record asked.first { reserved = asked.held } in
     let start = unchanged_messages_hold id flags no_items asked.first held asked.begun asked.begun empty refl refl refl in
     let start_within : Within max_size held = (ap (λ (x : WriterState). x.max_size) first_is, omega (arith, ap (λ (x : WriterState). x.end) first_is, enough)) in
-    let (qs, queries, holds) = queries_hold id flags no_items x.queries held copies.asked asked.begun copies.asked_by start asked.adds in
-    let within = set_within Queries query_form x.queries held copies.asked asked.begun copies.asked_by max_size start_within asked.adds in
-    let s = copies.sections in
+    let (qs, queries, holds) = queries_hold id flags no_items x.queries held copies.body.asked asked.begun copies.body.asked_by start asked.adds in
+    let within = set_within Queries query_form x.queries held copies.body.asked asked.begun copies.body.asked_by max_size start_within asked.adds in
+    let s = copies.body.sections in
     let c1 : AddedItems = record no_items { queries = qs } in
-    let (rs, answers, answered) = sets_hold id flags Answers c1 x.answers copies.asked s.answered copies.asked_by s.answered_by s.all_answers holds (omega arith) s.answers in
+    let (rs, answers, answered) = sets_hold id flags Answers c1 x.answers copies.body.asked s.answered copies.body.asked_by s.answered_by s.all_answers holds (omega arith) s.answers in
     let (us_, authorities, led) = sets_hold id flags Authorities (with_records Answers rs c1) x.authorities s.answered s.led s.answered_by s.led_by s.all_authorities answered (omega arith) s.authorities in
     let c3 = with_records Authorities us_ (with_records Answers rs c1) in
     let (ds, additionals, filled) = sets_hold id flags Additionals c3 (sets_of Additionals x.additionals) s.led copies.filled s.led_by copies.filled_by s.all_additionals led (omega arith) s.additionals in
     let c4 = with_records Additionals ds c3 in
-    let within1 = sets_within Answers x.answers copies.asked s.answered copies.asked_by s.answered_by s.all_answers max_size within s.answers in
+    let within1 = sets_within Answers x.answers copies.body.asked s.answered copies.body.asked_by s.answered_by s.all_answers max_size within s.answers in
     let within2 = sets_within Authorities x.authorities s.answered s.led s.answered_by s.led_by s.all_authorities max_size within1 s.authorities in
     let within3 = sets_within Additionals (sets_of Additionals x.additionals) s.led copies.filled s.led_by copies.filled_by s.all_additionals max_size within2 s.additionals in
     let free : WriterState = for_last copies.filled.reserved copies.filled in

@@ -7,12 +7,13 @@ use Rattle.dnw_base.specs.Names.{AreLabels}
 use Rattle.dnw_base.specs.RecordTypes.{type_code}
 use Rattle.dnw_record.specs.Records.{RecordValue}
 use Rattle.dnw_message_read.specs.Messages.{QueryValue}
-use Rattle.dnw_message_writer.specs.Copying.{AreASet, AreOfOneSet, CopiesSets, CopyFits, copied_past, EndsBefore, FailsSets, FailsToAddCopy, FailsToAddQuery, StopsAmong, StopsInSet, after_set, at_once, copied_form, held_in, is_held, no_room, none_left, one_set, query_form, sets_of}
+use Rattle.dnw_message_writer.specs.Copying.{AreASet, AreOfOneSet, CopiesSets, CopyFits, copied_past, EndsBefore, FailsSets, FailsToAddCopy, FailsToAddQuery, StopsAmong, StopsInSet, after_set, at_once, copied_form, held_in, is_held, no_room, none_left, one_set, query_form, sets_of, signs_message}
 use Rattle.dnw_message_writer.specs.Inside.CopiedSets.{AddsFirstSet}
 use Rattle.dnw_message_writer.specs.Inside.Taken.{IsCopiedIn}
 use Rattle.dnw_message_writer.specs.Inside.Turns.{KeptCount}
 use Rattle.dnw_message_writer.specs.Hints.{slot_of}
 use Rattle.dnw_message_writer.specs.Items.{ItemForm, question_form, question_past, record_form, record_past}
+use Rattle.dnw_message_writer.specs.Padded.{signatures_in}
 use Rattle.dnw_message_writer.specs.Sets.{AddsSet}
 use Rattle.dnw_message_writer.specs.States.{AddsItem, FailsToAdd}
 use Rattle.dnw_message_writer.specs.declared.copying.CopyError.{CopyError}
@@ -103,6 +104,9 @@ module _ {D : Type 0} (s : Section) (form : D → ItemForm) (xs : List D) (first
 
 pub held_kept : (x : RecordValue) (xs : List RecordValue) → is_held x ≡ true → held_in (x ∷ xs) ≡ x ∷ held_in xs
 held_kept x xs is = ap (λ (b : Bool). cond b (x ∷ held_in xs) (held_in xs)) is
+
+pub signature_kept : (x : RecordValue) (xs : List RecordValue) → signs_message x ≡ true → signatures_in (x ∷ xs) ≡ x ∷ signatures_in xs
+signature_kept x xs is = ap (λ (b : Bool). cond b (x ∷ signatures_in xs) (signatures_in xs)) is
 
 pub held_out : (x : RecordValue) (xs : List RecordValue) → is_held x ≡ false → held_in (x ∷ xs) ≡ held_in xs
 held_out x xs is = ap (λ (b : Bool). cond b (x ∷ held_in xs) (held_in xs)) is

@@ -246,16 +246,21 @@ CopiesHeld x w m v n = AddsSet Additionals copied_form (held_in x.additionals) (
 abbrev pub FollowsFew : MessageValue → Type 0
 FollowsFew x = (left : ℕ) × TakesAllPointers (records_of x) max_pointers (Some left)
 
--- A message is written again, in at most so many octets. If a record is missing that it has to have, TC is set.
-pub record CopiesMessage (x : MessageValue) (max_size : ℕ) (old : List ℕ) (w : WriterState) (new : List ℕ) : Type 0 where
+-- A message is written again, in at most so many octets, but for the records that come last. Whether a record is missing that it has to
+-- have.
+pub record CopiesBody (x : MessageValue) (max_size : ℕ) (old : List ℕ) (filled : WriterState) (filled_by : List ℕ) (missing : Bool) : Type 0 where
   pub few : FollowsFew x
   pub asked : WriterState
   pub asked_by : List ℕ
   pub questions : CopiesQuestions x max_size old asked asked_by
+  pub sections : CopiesSections x asked asked_by filled filled_by missing
+
+-- It is written again. If a record is missing that it has to have, TC is set.
+pub record CopiesMessage (x : MessageValue) (max_size : ℕ) (old : List ℕ) (w : WriterState) (new : List ℕ) : Type 0 where
   pub filled : WriterState
   pub filled_by : List ℕ
   pub missing : Bool
-  pub sections : CopiesSections x asked asked_by filled filled_by missing
+  pub body : CopiesBody x max_size old filled filled_by missing
   pub whole : List ℕ
   pub held : CopiesHeld x filled filled_by w whole
   pub new_is : new ≡ (if missing then cut_off whole else whole)
@@ -296,15 +301,18 @@ abbrev pub FailsHeld : MessageValue → WriterState → List ℕ → CopyError �
 FailsHeld x w m e =
     StopsAmong Additionals copied_form (FailsToAddCopy Additionals) (held_in x.additionals) (for_last w.reserved w) m e
 
--- What it says by EDNS breaks a rule, or names in its data follow more pointers than are allowed, or it has no room for its header, its
--- questions or the records that come last, or for any record if it is never cut, or the data of a record are none of its class and
--- type, or memory ran out.
+-- Names in its data follow more pointers than are allowed, or it has no room for its header, its questions or the records that come last,
+-- or for any record if it is never cut, or the data of a record are none of its class and type, or memory ran out.
+abbrev pub FailsBody : MessageValue → ℕ → List ℕ → CopyError → Type 0
+FailsBody x max_size old e =
+    (TakesAllPointers (records_of x) max_pointers None × (e ≡ errors.TooManyPointers))
+    ⊎ (((max_size < first_item) ⊎ (length old < first_item)) × (e ≡ errors.Write NoRoom))
+    ⊎ FailsQuestions x max_size old e
+    ⊎ ((w : WriterState) × (m : List ℕ) × CopiesQuestions x max_size old w m × FailsSections x w m e)
+
+-- What it says by EDNS breaks a rule, or it fails so, or a record that comes last is not added.
 abbrev pub FailsToCopyMessage : MessageValue → ℕ → List ℕ → CopyError → Type 0
 FailsToCopyMessage x max_size old e =
     ((error : EdnsError) × FailsEdns x error × (e ≡ errors.Edns error))
-    ⊎ (TakesAllPointers (records_of x) max_pointers None × (e ≡ errors.TooManyPointers))
-    ⊎ (((max_size < first_item) ⊎ (length old < first_item)) × (e ≡ errors.Write NoRoom))
-    ⊎ FailsQuestions x max_size old e
-    ⊎ ((w : WriterState) × (m : List ℕ) × CopiesQuestions x max_size old w m
-    × (FailsSections x w m e
-    ⊎ ((v : WriterState) × (n : List ℕ) × (missing : Bool) × CopiesSections x w m v n missing × FailsHeld x v n e)))
+    ⊎ FailsBody x max_size old e
+    ⊎ ((w : WriterState) × (m : List ℕ) × (missing : Bool) × CopiesBody x max_size old w m missing × FailsHeld x w m e)

@@ -2,8 +2,10 @@
 use Rattle.std.specs.Prelude.{◌≡◌, ℕ, ◌+◌, ◌-◌, ◌*◌, ◌%◌, ◌^◌, ◌==◌, ◌||◌, ◌⊎◌, nat_lt, if◌then◌else◌, Option, Some, None, List, [], ◌∷◌, ◌++◌, length, replicate}
 use Rattle.std.specs.Int.{w16, to_be_bytes}
 use Rattle.dnw_base.specs.TypeCodes.{opt_code}
+use Rattle.dnw_message_read.specs.Codes.{option_code}
 use Rattle.dnw_message_read.specs.Edns.{HasOptions}
 use Rattle.dnw_message_read.specs.Headers.{flag}
+use Rattle.dnw_message_read.specs.declared.code.OptionCode.TheVariants.{Padding}
 use Rattle.dnw_message_writer.specs.Listed.{data_form, data_past}
 use Rattle.dnw_message_writer.specs.States.{AddsItem, FailsToAdd, room_of}
 use Rattle.dnw_message_writer.specs.declared.edns.Edns.{Edns}
@@ -20,6 +22,10 @@ ttl_of_edns e = e.rcode_high * 2 ^ 24 + e.version * 2 ^ 16 + flag e.dnssec_ok 15
 abbrev pub opt_size : ℕ
 opt_size = 15
 
+-- A message is padded to a multiple of at most so many octets.
+abbrev pub most_block : ℕ
+most_block = 512
+
 -- what a number lacks to a multiple of a block
 abbrev pub lacking : ℕ → ℕ → ℕ
 lacking block total = (block - total % block) % block
@@ -31,10 +37,13 @@ padding_size block w m options =
     if block == 0 || nat_lt (room_of w m) (w.end + (opt_size + options + lacking block (w.end + opt_size + options + w.reserved)))
     then None else Some (lacking block (w.end + opt_size + options + w.reserved))
 
--- the option of so many zeros (RFC 7830, section 3)
+-- the code of the option Padding, and the option of so many zeros (RFC 7830, section 3)
+abbrev pub padding_code : ℕ
+padding_code = option_code Padding
+
 abbrev pub padding : Option ℕ → List ℕ
 padding None = []
-padding (Some size) = 0 ∷ 12 ∷ (to_be_bytes w16 size ++ replicate size 0)
+padding (Some size) = 0 ∷ padding_code ∷ (to_be_bytes w16 size ++ replicate size 0)
 
 -- the data of the OPT record
 abbrev pub opt_data : Edns → ℕ → WriterState → List ℕ → List ℕ

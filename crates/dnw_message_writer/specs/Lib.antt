@@ -11,6 +11,7 @@ pub mod Items
 pub mod Listed
 pub mod NameLaws
 pub mod Needs
+pub mod Padded
 pub mod Pieces
 pub mod Queries
 pub mod ReadItems

@@ -101,9 +101,9 @@ reply_flags requested own code = bit_or (bit_or (bit_or 32768 (bit_and requested
 abbrev pub reply_code : Asked → ℕ → ℕ
 reply_code asked own = if asked.rcode == 0 then own else asked.rcode
 
--- the greatest code that a reply can have: of twelve bits with EDNS, and else of four
-abbrev pub most_code : Asked → ℕ
-most_code asked = if asked.has_edns then most_by_edns else most_in_header
+-- the greatest code of a message: of twelve bits with EDNS, and else of four
+abbrev pub most_code : Bool → ℕ
+most_code has_edns = if has_edns then most_by_edns else most_in_header
 
 -- A reply with this code takes records. One with FORMERR, NOTIMP or BADVERS is whole without (RFC 1035, section 4.1.1; RFC 6891, section
 -- 6.1.3).
@@ -140,7 +140,7 @@ closed_for code w = if takes_records code then w else record w { rank = rank Add
 -- The reply to a request begins, with this code of the server's, if the request has to get no other.
 abbrev pub BeginsReplyTo : List ℕ → ℕ → ℕ → ℕ → Asked → List ℕ → WriterState → List ℕ → Type 0
 BeginsReplyTo request own code max_size asked old after new =
-    IsRequest request × (query : Option QueryValue) × AsksOf request asked query × (reply_code asked code ≤ most_code asked)
+    IsRequest request × (query : Option QueryValue) × AsksOf request asked query × (reply_code asked code ≤ most_code asked.has_edns)
     × (w : WriterState)
     × BeginsAsked query (field_at request 0) (reply_flags (field_at request 2) own (reply_code asked code % 16)) max_size old w new
     × (after ≡ closed_for (reply_code asked code) (held_for asked w))
@@ -150,7 +150,7 @@ abbrev pub FailsToReply : List ℕ → ℕ → ℕ → ℕ → List ℕ → Repl
 FailsToReply request own code max_size old NoRequest = IsRequest request → ⊥
 FailsToReply request own code max_size old LongCode =
     IsRequest request × (query : Option QueryValue) × (asked : Asked) × AsksOf request asked query
-    × (most_code asked < reply_code asked code)
+    × (most_code asked.has_edns < reply_code asked code)
 FailsToReply request own code max_size old (Write e) =
     IsRequest request × (query : Option QueryValue) × (asked : Asked) × AsksOf request asked query
     × FailsToBeginAsked query (field_at request 0) (reply_flags (field_at request 2) own (reply_code asked code % 16)) max_size old e

@@ -3,7 +3,7 @@ ghost use Rattle.std.specs.Prelude.{◌≡◌, ◌∷◌, ◌<◌, ◌≤◌, �
 ghost use Rattle.dnw_base.specs.Names.{AreLabels, lower};
 ghost use Rattle.dnw_record.specs.DataCopies.{Copies, data_start, record_kinds};
 ghost use Rattle.dnw_message_read.specs.Headers.{flags_of};
-ghost use Rattle.dnw_message_writer.specs.Copying.{AreOfOneKind, AreOfOneSet, CopiesHeld, CopiesMessage, CopiesQuestions, CopiesSections, CopiesSets, FailsHeld, FailsQuestions, FailsSections, FailsSets, FailsToAddCopy, FailsToHold, HoldsFor, IsWholeSize, FailsToAddQuery, FailsToCopyMessage, StandWhole, StopsAmong, StopsInSet, copied_form, covers_no_type, copied_past, held_in, is_held, query_form, sets_of, signs_message, size_with};
+ghost use Rattle.dnw_message_writer.specs.Copying.{AreOfOneKind, AreOfOneSet, CopiesBody, CopiesHeld, CopiesMessage, CopiesQuestions, CopiesSections, CopiesSets, FailsBody, FailsHeld, FailsQuestions, FailsSections, FailsSets, FailsToAddCopy, FailsToHold, HoldsFor, IsWholeSize, FailsToAddQuery, FailsToCopyMessage, StandWhole, StopsAmong, StopsInSet, copied_form, covers_no_type, copied_past, held_in, is_held, query_form, sets_of, signs_message, size_with};
 ghost use Rattle.dnw_message_writer.specs.Inside.CopiedSets.{AddsFirstSet, first_of};
 ghost use Rattle.dnw_message_writer.specs.Inside.Taken.{IsCopiedIn};
 ghost use Rattle.dnw_message_writer.specs.Inside.Turns.{KeptCount};
@@ -285,7 +285,7 @@ impl WriterState {
     }
 
     /// Writes a message again.
-    fn copy_items(
+    pub(crate) fn copy_items(
         &mut self,
         alloc: Global,
         message: &mut [u8],
@@ -299,17 +299,7 @@ impl WriterState {
             Ok(_) => {}
             Err(error) => return Err(CopyError::Edns(error)),
         }
-        if !source.data_follow_few(MAX_POINTERS) {
-            return Err(CopyError::TooManyPointers);
-        }
-        if max_size < FIRST_ITEM || message.len() < FIRST_ITEM {
-            return Err(CopyError::Write(WriteError::NoRoom));
-        }
-        match self.copy_questions(alloc, message, source, max_size) {
-            Ok(()) => {}
-            Err(error) => return Err(error),
-        }
-        let missing = match self.copy_sections(alloc, message, source) {
+        let missing = match self.copy_body(alloc, message, source, max_size) {
             Ok(missing) => missing,
             Err(error) => return Err(error),
         };
@@ -321,6 +311,33 @@ impl WriterState {
             cut_off(message);
         }
         Ok(())
+    }
+
+    /// Writes a message again, but for the records that come last. Returns `true` if a record is left out that the message has to have.
+    pub(crate) fn copy_body(
+        &mut self,
+        alloc: Global,
+        message: &mut [u8],
+        source: &MessageRef<'_>,
+        max_size: usize,
+    ) -> Result<bool, CopyError>
+        ensures ok { IfOk result (CopiesBody source.now max_size message.old self.new message.new) }
+        ensures err { IfErr result (FailsBody source.now max_size message.old) }
+    {
+        if !source.data_follow_few(MAX_POINTERS) {
+            return Err(CopyError::TooManyPointers);
+        }
+        if max_size < FIRST_ITEM || message.len() < FIRST_ITEM {
+            return Err(CopyError::Write(WriteError::NoRoom));
+        }
+        match self.copy_questions(alloc, message, source, max_size) {
+            Ok(()) => {}
+            Err(error) => return Err(error),
+        }
+        match self.copy_sections(alloc, message, source) {
+            Ok(missing) => Ok(missing),
+            Err(error) => Err(error),
+        }
     }
 
     /// Begins with the header and the questions of a message.
@@ -629,7 +646,7 @@ fn are_same(some: &[u8], others: &[u8]) -> bool
 
 /// Returns `true` for a record that comes after the others: what a message says by EDNS (RFC 6891), or a signature of it.
 #[inline(always)]
-fn is_held(item: &RecordRef<'_>) -> bool
+pub fn is_held(item: &RecordRef<'_>) -> bool
     ensures { result ≡ is_held item.now }
 {
     item.record_type().code() == RecordType::OPT.code() || signs_message(item)
@@ -638,7 +655,7 @@ fn is_held(item: &RecordRef<'_>) -> bool
 /// Returns `true` for a signature of a message: TSIG (RFC 8945), or SIG(0), which is a SIG that covers no type (RFC 2931, section 3).
 /// A SIG that covers a type is a record like others.
 #[inline(always)]
-fn signs_message(item: &RecordRef<'_>) -> bool
+pub(crate) fn signs_message(item: &RecordRef<'_>) -> bool
     ensures { result ≡ signs_message item.now }
 {
     let code = item.record_type().code();
@@ -689,7 +706,7 @@ fn whole_size(alloc: Global, item: &RecordRef<'_>) -> Result<usize, CopyError>
 
 /// Returns how many octets a record with these data has, if its owner is whole.
 #[inline(always)]
-fn size_with(item: &RecordRef<'_>, octets: &[u8]) -> usize
+pub(crate) fn size_with(item: &RecordRef<'_>, octets: &[u8]) -> usize
     ensures { result ≡ size_with item.now octets.now }
 {
     let before = item.owner().encoded_len() + FIXED_SIZE;

@@ -15,7 +15,7 @@ use dnw_base::record_type::RecordType;
 use dnw_name_form::wire_labels::WireLabels;
 
 /// The code of the option `Padding` (RFC 7830, section 3).
-const PADDING: u8 = 12;
+pub(crate) const PADDING: u8 = 12;
 
 /// The octets of an `OPT` record before its data, and those of an option before its own.
 const OPT_FRONT: usize = 15;

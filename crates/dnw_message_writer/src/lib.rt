@@ -15,6 +15,7 @@ pub mod listed;
 mod missing;
 pub mod names;
 pub mod needs;
+pub mod padded;
 pub mod pieces;
 pub mod query;
 pub mod reply;

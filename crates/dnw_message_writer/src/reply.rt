@@ -98,7 +98,7 @@ impl WriterState {
         }
         let (asked, query) = asked_of(request);
         let code = reply_code(asked, code);
-        if code > most_code(asked) {
+        if code > most_code(asked.has_edns) {
             return Err(ReplyError::LongCode);
         }
         let id = field_at(request, 0);
@@ -185,11 +185,11 @@ pub fn reply_code(asked: Asked, own: u16) -> u16
     if asked.rcode == 0 { own } else { asked.rcode }
 }
 
-/// Returns the greatest response code that a reply can have.
-fn most_code(asked: Asked) -> u16
-    ensures { result ≡ most_code asked }
+/// Returns the greatest response code of a message, with EDNS or without it.
+pub fn most_code(has_edns: bool) -> u16
+    ensures { result ≡ most_code has_edns }
 {
-    if asked.has_edns {
+    if has_edns {
         MOST_BY_EDNS
     } else {
         MOST_IN_HEADER

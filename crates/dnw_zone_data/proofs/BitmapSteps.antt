@@ -1,5 +1,5 @@
 -- Numbers of bitmaps, one after another.
-use Rattle.std.proofs.Common.{◌≡◌, ◌≢◌, ◌<◌, ℕ, Bool, List, [], ◌∷◌, ◌++◌, length, refl, sym, ap, ◌∙◌, subst, arith, IfOk}
+use Rattle.std.proofs.Common.{◌≡◌, ◌≢◌, ◌<◌, ℕ, Bool, true, List, [], ◌∷◌, ◌++◌, length, refl, sym, ap, ◌∙◌, subst, arith, IfOk}
 use Rattle.std.specs.Prelude.{Result, None, Some}
 use Rattle.dnw_data.specs.Values.{octets}
 use Rattle.dnw_data.specs.declared.kind.Shown.{Shown}
@@ -7,6 +7,8 @@ use Rattle.dnw_data.specs.declared.kind.Shown.TheVariants.{Ports, OldTypes}
 use Rattle.dnw_zone_data.specs.Appending.{AppendsOne}
 use Rattle.dnw_zone_data.specs.Bitmaps.{with_number, with_numbers, AreBitWords, IsBitWord}
 use Rattle.dnw_zone_data.specs.Inside.BitWords.{LeadToBits}
+use Rattle.dnw_zone_data.specs.declared.number_form.NumberForm.{NumberForm}
+use Rattle.dnw_zone_data.specs.NumberForms.{is_given}
 use Rattle.dnw_zone_data.specs.Parsing.{AllSpell, SpellsOctets}
 use Rattle.dnw_zone_data.specs.Words.{after_spaces, word, after_word, without_spaces}
 use Rattle.dnw_zone_data.proofs.TypeSteps.{word_some}
@@ -39,12 +41,12 @@ with_last [] own n = refl
 with_last (m ∷ ns) own n = with_last ns (with_number m own) n
 
 -- octets that are no bitmap are spelled by all words as one
-pub all_spell : {E : Type 0} (shown : Shown) (left old new : List ℕ) (read : Result Bool E) → (shown ≡ Ports → ⊥) → (shown ≡ OldTypes → ⊥)
-    → IfOk read (AppendsOne (λ value. (own : List ℕ) × SpellsOctets shown (without_spaces left) own × (value ≡ octets own)) old new)
-    → IfOk read (AppendsOne (λ value. (own : List ℕ) × AllSpell shown left own × (value ≡ octets own)) old new)
-all_spell Ports left old new read a b h = absurd (a refl)
-all_spell OldTypes left old new read a b h = absurd (b refl)
-all_spell shown left old new read a b h = h
+pub all_spell : {E : Type 0} (way : NumberForm) (shown : Shown) (left old new : List ℕ) (read : Result Bool E) → (shown ≡ Ports → ⊥) → (shown ≡ OldTypes → ⊥)
+    → IfOk read (AppendsOne (λ value. (own : List ℕ) × (SpellsOctets shown (without_spaces left) own × (is_given way own ≡ true)) × (value ≡ octets own)) old new)
+    → IfOk read (AppendsOne (λ value. (own : List ℕ) × AllSpell way shown left own × (value ≡ octets own)) old new)
+all_spell way Ports left old new read a b h = absurd (a refl)
+all_spell way OldTypes left old new read a b h = absurd (b refl)
+all_spell way shown left old new read a b h = h
 
 -- no number is an empty word
 pub bit_some : (shown : Shown) (w : List ℕ) (n : ℕ) → IsBitWord shown w n → 0 < length w

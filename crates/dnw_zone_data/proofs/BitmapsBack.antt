@@ -6,8 +6,7 @@ use Rattle.std.specs.List.{AllByRecursion}
 use Rattle.std.proofs.lemmas.Bool.{and_parts, cases_Bool, cases_eq, eqb-true, leb-true, ltb-true}
 use Rattle.std.proofs.lemmas.Fmt.{decimal_nonempty}
 use Rattle.std.proofs.lemmas.List.{map-append}
-use Rattle.dnw_base.specs.RecordTypes.{type_code, type_of_code, type_text}
-use Rattle.dnw_base.proofs.PrintedTypes.{types_come_back}
+use Rattle.dnw_base.specs.RecordTypes.{type_code, type_of_code}
 use Rattle.dnw_data.proofs.Codes.{code_back}
 use Rattle.dnw_data.specs.TypeSets.{bits, bit_codes, octet_codes, octets_codes}
 use Rattle.dnw_data.specs.Values.{octets}
@@ -20,8 +19,9 @@ use Rattle.dnw_zone_values.specs.Prefixes.{ends_in_no_zero}
 use Rattle.dnw_zone_data.specs.Bitmaps.{numbers_text, with_number, with_numbers, AreBits, AreBitWords, IsBitWord}
 use Rattle.dnw_zone_data.specs.DataTextLaws.{FieldComesBack}
 use Rattle.dnw_zone_data.specs.Generic.{generic_mark}
+use Rattle.dnw_zone_data.specs.TypeLists.{shown_type}
 use Rattle.dnw_zone_data.specs.Words.{is_end, word, after_spaces}
-use Rattle.dnw_zone_data.proofs.FieldsBack.{type_plain, type_some, type_other}
+use Rattle.dnw_zone_data.proofs.FieldsBack.{shown_back, shown_other, shown_plain, shown_some}
 use Rattle.dnw_zone_data.proofs.Items.{starts_twice}
 use Rattle.dnw_zone_data.proofs.NumberFormsBack.{named_or}
 use Rattle.dnw_zone_data.proofs.Plain.{all_plain, decimal_plain, plain_starts, plain_word, plain_after, plain_utf8}
@@ -191,8 +191,8 @@ old_types_are (o ∷ own) few none =
 pub port_plain : (n : ℕ) → n < 65536 → (all_plain (decimal n) ≡ true) × (0 < length (decimal n))
 port_plain n few = (decimal_plain n (omega (arith, few)), decimal_nonempty n (omega (arith, few)))
 
-pub old_type_plain : (n : ℕ) → n ≤ 127 → (all_plain (type_text (type_of_code n)) ≡ true) × (0 < length (type_text (type_of_code n)))
-old_type_plain n few = (type_plain (type_of_code n) (omega (arith, few, code_back n)), type_some (type_of_code n))
+pub old_type_plain : (n : ℕ) → n ≤ 127 → (all_plain (shown_type (type_of_code n)) ≡ true) × (0 < length (shown_type (type_of_code n)))
+old_type_plain n few = (shown_plain (type_of_code n) (omega (arith, few, code_back n)), shown_some (type_of_code n))
 
 numbers_end : (shown : Shown) (ns : List ℕ) → is_end (numbers_text shown ns) ≡ true
 numbers_end shown [] = refl
@@ -214,10 +214,10 @@ type_words : (ns : List ℕ) → AllByRecursion (IsBit OldTypes) ns → AreBitWo
 type_words [] h = refl
 type_words (n ∷ ns) h =
     let kind = type_of_code n in
-    let w = type_text kind in
+    let w = shown_type kind in
     let plain = old_type_plain n h.0.1 in
     let few : type_code kind < 65536 = omega (arith, h.0.1, code_back n) in
-    let is : IsBitWord OldTypes w n = (kind, (plain_utf8 w plain.0, types_come_back kind few ∙ ap (λ (c : ℕ). Some (type_of_code c)) (code_back n), type_other kind), sym (code_back n), h.0.0, h.0.1) in
+    let is : IsBitWord OldTypes w n = (kind, (plain_utf8 w plain.0, shown_back kind few ∙ ap (λ (c : ℕ). Some (type_of_code c)) (code_back n), shown_other kind), sym (code_back n), h.0.0, h.0.1) in
     one_word OldTypes n ns w (numbers_text OldTypes ns) plain (numbers_end OldTypes ns) is (type_words ns h.1)
 
 from_start : (shown : Shown) (text ns : List ℕ) → AreBitWords shown text ns → AreBitWords shown (after_spaces text) ns

@@ -17,7 +17,7 @@ use Rattle.dnw_zone_data.specs.Appending.{AppendsOne}
 use Rattle.dnw_zone_data.specs.Inside.Reads.{HasNumber, is_number}
 use Rattle.dnw_zone_data.specs.Parsing.{IsWord}
 use Rattle.dnw_zone_data.specs.declared.number_form.NumberForm.{NumberForm}
-use Rattle.dnw_zone_data.specs.declared.number_form.NumberForm.TheVariants.{Decimal, Period, Algorithm, CertificateType, Scheme, Protocol}
+use Rattle.dnw_zone_data.specs.declared.number_form.NumberForm.TheVariants.{Decimal, Period, Algorithm, CertificateType, Scheme, Protocol, Optional}
 use Rattle.dnw_zone_data.specs.NumberForms.{most_short, IsNumberIn, IsPeriod}
 use Rattle.dnw_zone_data.specs.Words.{after_word, is_end, is_space, word, word_len}
 use Rattle.dnw_zone_data.proofs.Plain.{all_plain, is_plain, plain_after, plain_word}
@@ -179,6 +179,7 @@ few_in Algorithm max n text is few = named algorithm_named max n text is.0 few
 few_in CertificateType max n text is few = named certificate_type_named max n text is.0 few
 few_in Scheme max n text is few = named scheme_named max n text is.0 few
 few_in Protocol max n text is few = named protocol_named max n text is.0 few
+few_in Optional max n text is few = (is.0.0, is.0.1, few)
 
 same : (max n m : ℕ) (text : List ℕ) → IsNumberText max_u32 text n → IsNumberText max text m → n ≤ max
 same max n m text is own = omega (arith, sym is.1 ∙ own.1, own.2)
@@ -193,6 +194,7 @@ within Algorithm max n m text is own = not_named algorithm_named max n m text is
 within CertificateType max n m text is own = not_named certificate_type_named max n m text is.0 own
 within Scheme max n m text is own = not_named scheme_named max n m text is.0 own
 within Protocol max n m text is own = not_named protocol_named max n m text is.0 own
+within Optional max n m text is own = same max n m text is.0 own
 
 -- ---- fields
 

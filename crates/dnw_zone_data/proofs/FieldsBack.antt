@@ -16,7 +16,8 @@ use Rattle.dnw_base.specs.Names.{NameValue}
 use Rattle.dnw_base.specs.declared.record_type.RecordType.{RecordType}
 use Rattle.dnw_base.specs.declared.record_type.RecordType.TheVariants as rr
 use Rattle.dnw_base.specs.CodeTexts.{numbered}
-use Rattle.dnw_base.specs.RecordTypes.{type_code, type_name, type_text}
+use Rattle.dnw_base.specs.RecordTypes.{type_code, type_name, type_of_code, type_of_text, type_text}
+use Rattle.dnw_base.proofs.Digits.{numbered_back}
 use Rattle.dnw_base.proofs.PrintedTypes.{text_by, types_come_back}
 use Rattle.dnw_data.specs.declared.kind.Kind.{Kind}
 use Rattle.dnw_data.specs.declared.kind.Kind.TheVariants.{U8, U16, U32, Ipv4, TypeCode, Time, Counted, Octets, List as ListOf}
@@ -35,10 +36,12 @@ use Rattle.dnw_zone_values.proofs.ComeBack.{numbers, salt}
 use Rattle.dnw_zone_values.proofs.StringText.{string, text}
 use Rattle.dnw_zone_data.specs.declared.extent.Extent.TheVariants.{One}
 use Rattle.dnw_zone_data.specs.declared.number_form.NumberForm.{NumberForm}
+use Rattle.dnw_zone_data.specs.NumberForms.{is_given}
 use Rattle.dnw_zone_data.specs.Words.{is_asterisk, is_end, quoted_len, word_len, word, after_word, after_spaces}
 use Rattle.dnw_zone_data.specs.Parsing.{extent_of, IsWord, ReadsField}
 use Rattle.dnw_zone_data.specs.StringLists.{AreStringWords, AreTexts}
 use Rattle.dnw_zone_data.specs.Printing.{strings_text}
+use Rattle.dnw_zone_data.specs.TypeLists.{has_unread_name, shown_type}
 use Rattle.dnw_zone_data.specs.DataTextLaws.{IsReadType, IsFieldReadBack, FieldComesBack}
 use Rattle.dnw_zone_data.specs.Generic.{generic_mark, hex_part}
 use Rattle.dnw_zone_data.proofs.GenericText.{hex_end, hex_words}
@@ -96,7 +99,7 @@ pub time_back : (n : ℕ) → n ≤ max_u32 → FieldComesBack Time (time n)
 time_back n few origin way printed rest print end =
     let (date, is, e) = print in
     let plain = digits_plain date is.digits.1 in
-    plain_by origin way Time printed date rest (time n) refl e plain (omega (arith, is.digits.0)) end.1 (n, inl (is, few), refl)
+    plain_by origin way Time printed date rest (time n) refl e plain (omega (arith, is.digits.0)) end.1 (n, inl (n, is, omega (arith, few)), refl)
 
 letter_plain : (c : ℕ) → is_ascii_alphanumeric c ≡ true → is_plain c ≡ true
 letter_plain c h = plain_by_tests c (grind arith) (grind arith) (grind arith) (grind arith) (grind arith) (grind arith) (grind arith)
@@ -129,10 +132,11 @@ name_plain : (record_type : RecordType) → all_plain (type_name record_type) �
 name_plain (rr.Unknown code) = refl
 name_plain record_type = refl
 
+number_plain : (code : ℕ) → code < 65536 → all_plain (numbered (codes "TYPE") code) ≡ true
+number_plain code h = plain_append (codes "TYPE") (decimal code) refl (decimal_plain code (omega (arith, h)))
+
 pub type_plain : (record_type : RecordType) → type_code record_type < 65536 → all_plain (type_text record_type) ≡ true
-type_plain record_type h =
-    let number = plain_append (codes "TYPE") (decimal (type_code record_type)) refl (decimal_plain (type_code record_type) (omega (arith, h))) in
-    text_by all_plain name_plain refl record_type number
+type_plain record_type h = text_by all_plain name_plain refl record_type (number_plain (type_code record_type) h)
 
 name_other : (record_type : RecordType) → not (is_asterisk (type_name record_type)) ≡ true
 name_other (rr.Unknown code) = refl
@@ -150,17 +154,39 @@ name_some : (record_type : RecordType) → nat_lt 0 (length (type_name record_ty
 name_some (rr.Unknown code) = refl
 name_some record_type = refl
 
+number_some : (code : ℕ) → 0 < length (numbered (codes "TYPE") code)
+number_some code = omega (arith, length-append (codes "TYPE") (decimal code))
+
 pub type_some : (record_type : RecordType) → 0 < length (type_text record_type)
 type_some record_type =
-    let printed = numbered (codes "TYPE") (type_code record_type) in
-    let number = lt-ltb 0 (length printed) (omega (arith, length-append (codes "TYPE") (decimal (type_code record_type)))) in
+    let number = lt-ltb 0 (length (numbered (codes "TYPE") (type_code record_type))) (number_some (type_code record_type)) in
     ltb-true 0 (length (type_text record_type)) (text_by (λ w. nat_lt 0 (length w)) name_some refl record_type number)
+
+-- the text of a type in data is its name or its number
+shown_by : (P : List ℕ → Type 0) (record_type : RecordType) → P (numbered (codes "TYPE") (type_code record_type)) → P (type_text record_type) → P (shown_type record_type)
+shown_by P record_type number name = elim (cases_Bool (has_unread_name (type_code record_type))) [ inl unread ↦ rw unread number | inr read ↦ rw read name ]
+
+pub shown_plain : (record_type : RecordType) → type_code record_type < 65536 → all_plain (shown_type record_type) ≡ true
+shown_plain record_type h = shown_by (λ w. all_plain w ≡ true) record_type (number_plain (type_code record_type) h) (type_plain record_type h)
+
+pub shown_some : (record_type : RecordType) → 0 < length (shown_type record_type)
+shown_some record_type = shown_by (λ w. 0 < length w) record_type (number_some (type_code record_type)) (type_some record_type)
+
+pub shown_other : (record_type : RecordType) → is_asterisk (shown_type record_type) ≡ false
+shown_other record_type = shown_by (λ w. is_asterisk w ≡ false) record_type refl (type_other record_type)
+
+number_back : (code : ℕ) → code < 65536 → type_of_text (numbered (codes "TYPE") code) ≡ Some (type_of_code code)
+unfolding type_of_text
+number_back code h = rw (numbered_back (codes "TYPE") code h) refl
+
+pub shown_back : (record_type : RecordType) → type_code record_type < 65536 → type_of_text (shown_type record_type) ≡ Some (type_of_code (type_code record_type))
+shown_back record_type h = shown_by (λ w. type_of_text w ≡ Some (type_of_code (type_code record_type))) record_type (number_back (type_code record_type) h) (types_come_back record_type h)
 
 pub type_back : (record_type : RecordType) → IsReadType record_type → FieldComesBack TypeCode (type_code_of record_type)
 type_back record_type is origin way printed rest print end =
-    let w = type_text record_type in
-    let plain = type_plain record_type is.0 in
-    plain_by origin way TypeCode printed w rest (type_code_of record_type) refl print plain (type_some record_type) end.1 (record_type, (plain_utf8 w plain, types_come_back record_type is.0 ∙ ap Some is.1, type_other record_type), refl)
+    let w = shown_type record_type in
+    let plain = shown_plain record_type is.0 in
+    plain_by origin way TypeCode printed w rest (type_code_of record_type) refl print plain (shown_some record_type) end.1 (record_type, (plain_utf8 w plain, shown_back record_type is.0 ∙ ap Some is.1, shown_other record_type), refl)
 
 pub longer : (x y : List ℕ) → all_plain x ≡ true → 0 < length x → all_plain y ≡ true → (all_plain (x ++ y) ≡ true) × (0 < length (x ++ y))
 longer x y p some q = (plain_append x y p q, omega (arith, some, length-append x y))
@@ -226,12 +252,16 @@ hex_no_mark : (own : List ℕ) → IsOctets own → word (after_spaces (hex_part
 hex_no_mark [] h e = cc
 hex_no_mark (o ∷ own) h e = plain_no_mark (hex_text (o ∷ own)) (hex_plain (o ∷ own) h) e
 
+pub some_given : (way : NumberForm) (own : List ℕ) → 1 ≤ length own → is_given way own ≡ true
+some_given way [] some = absurd (omega (arith, some))
+some_given way (o ∷ own) some = refl
+
 pub octets_back : (own : List ℕ) → IsOctets own → FieldComesBack (Octets Hex) (octets own)
 octets_back own is origin way printed rest print end =
     let none : rest ≡ [] = end.0 refl in
     let words = hex_words own is in
-    let reads : ReadsField origin way (Octets Hex) (after_spaces (hex_part own)) (octets own) [] = ((own, words.0, refl), refl) in
-    rw (none, print, append-nil) (reads, hex_no_mark own is, hex_end own)
+    let reads : ReadsField origin way (Octets Hex) (after_spaces (hex_part own)) (octets own) [] = ((own, (words.0, some_given way own print.0), refl), refl) in
+    rw (none, print.1, append-nil) (reads, hex_no_mark own is, hex_end own)
 
 -- ---- words in quotes
 

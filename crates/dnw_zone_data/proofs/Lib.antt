@@ -12,6 +12,7 @@ pub mod CodesWithin
 pub mod OneBitmap
 pub mod Plain
 pub mod GenericText
+pub mod Given
 pub mod Strings
 pub mod NumberKinds
 pub mod Rests

@@ -9,7 +9,7 @@ use Rattle.dnw_zone_lexer.specs.Times.{groups_after, time_seconds, total_seconds
 use Rattle.dnw_zone_values.specs.Mnemonics.{IsNumberOrName, algorithm_named, begins_with_digit, certificate_type_named, protocol_named, scheme_named}
 use Rattle.dnw_zone_values.proofs.ComeBack.{numbers}
 use Rattle.dnw_zone_data.specs.declared.number_form.NumberForm.{NumberForm}
-use Rattle.dnw_zone_data.specs.declared.number_form.NumberForm.TheVariants.{Decimal, Period, Algorithm, CertificateType, Scheme, Protocol}
+use Rattle.dnw_zone_data.specs.declared.number_form.NumberForm.TheVariants.{Decimal, Period, Algorithm, CertificateType, Scheme, Protocol, Optional}
 use Rattle.dnw_zone_data.specs.NumberForms.{is_whole, IsNumberIn, IsPeriod}
 
 digit : (d : ℕ) → d < 10 → is_ascii_digit (48 + d) ≡ true
@@ -67,3 +67,4 @@ in_any_form Algorithm max n fits few = named_or algorithm_named max n fits few
 in_any_form CertificateType max n fits few = named_or certificate_type_named max n fits few
 in_any_form Scheme max n fits few = named_or scheme_named max n fits few
 in_any_form Protocol max n fits few = named_or protocol_named max n fits few
+in_any_form Optional max n fits few = (numbers max (omega (arith, fits)) n few).0

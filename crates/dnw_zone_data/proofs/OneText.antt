@@ -1,6 +1,6 @@
 -- A text is one list of octets at most.
 use Rattle.std.proofs.Common.{◌≡◌, ℕ, List, [], ◌∷◌, ◌+◌, ◌*◌, Ok, refl, sym, ap, ◌∙◌, subst, arith, inl, inr}
-use Rattle.std.specs.Prelude.{Option, pos, flat_map}
+use Rattle.std.specs.Prelude.{Option, flat_map}
 use Rattle.std.specs.Net.Addr.{ipv4_octets, ipv6_segments, octets_of}
 use Rattle.std.specs.declared.net.Ipv4Addr.{Ipv4Addr}
 use Rattle.std.specs.declared.net.Ipv6Addr.{Ipv6Addr}
@@ -23,7 +23,7 @@ use Rattle.dnw_data.specs.Values.{FieldValue, name, u8, u16, u32, ipv4, ipv6, ty
 use Rattle.dnw_zone_values.specs.Mnemonics.{IsNumberOrName, algorithm_named, begins_with_digit, certificate_type_named, protocol_named, scheme_named, service_named}
 use Rattle.dnw_zone_values.specs.Octets.{IsOctets, IsHexText, IsBase64Text, IsSaltText}
 use Rattle.dnw_zone_values.specs.Strings.{IsTextWithin}
-use Rattle.dnw_zone_values.specs.Times.{IsDateText, IsTimeText}
+use Rattle.dnw_zone_values.proofs.Calendar.{times_agree}
 use Rattle.dnw_zone_values.proofs.ComeBack.{base64}
 use Rattle.dnw_zone_values.specs.Params.{ParamValue, in_key_order, params_wire}
 use Rattle.dnw_zone_data.proofs.LocationWords.{one_location}
@@ -34,7 +34,7 @@ use Rattle.dnw_zone_data.proofs.PrefixListsBack.{one_prefixes}
 use Rattle.dnw_zone_data.specs.declared.extent.Extent.{Extent}
 use Rattle.dnw_zone_data.specs.declared.extent.Extent.TheVariants.{One, Three, All}
 use Rattle.dnw_zone_data.specs.declared.number_form.NumberForm.{NumberForm}
-use Rattle.dnw_zone_data.specs.declared.number_form.NumberForm.TheVariants.{Decimal, Period, Algorithm, CertificateType, Scheme, Protocol}
+use Rattle.dnw_zone_data.specs.declared.number_form.NumberForm.TheVariants.{Decimal, Period, Algorithm, CertificateType, Scheme, Protocol, Optional}
 use Rattle.dnw_zone_data.specs.NumberForms.{first_form, number_forms, other_forms, IsNumberIn}
 use Rattle.dnw_zone_data.specs.Gateways.{AreShape, IsGatewayEnd, IsGateway, IsIdentity, IsRelay, IsShape, identity_wire, of_shape, relay_flag}
 use Rattle.dnw_zone_data.specs.NameLists.{AreNameWords}
@@ -78,18 +78,6 @@ one_spelled Nsap text a b x y = absurd x
 one_spelled Ports text a b x y = absurd x
 one_spelled OldTypes text a b x y = absurd x
 
-one_date : (text : List ℕ) (m n : ℕ) → IsDateText text m → IsDateText text n → m ≡ n
-one_date text m n x y =
-    let e : pos x.days ≡ pos y.days = sym x.date.after ∙ y.date.after in
-    let days : x.days ≡ y.days = cc in
-    omega (arith, days, x.moment.value, y.moment.value)
-
-one_time : (text : List ℕ) (m n : ℕ) → IsTimeText text m → IsTimeText text n → m ≡ n
-one_time text m n (inl x) (inl y) = one_date text m n x.0 y.0
-one_time text m n (inl x) (inr y) = absurd (y.0 x.0.digits.0)
-one_time text m n (inr x) (inl y) = absurd (x.0 y.0.digits.0)
-one_time text m n (inr x) (inr y) = sym x.1.1 ∙ y.1.1
-
 one_or_name : (named : List ℕ → Option ℕ) (max : ℕ) (text : List ℕ) (m n : ℕ) → IsNumberOrName named max text m → IsNumberOrName named max text n → m ≡ n
 one_or_name named max text m n x y = elim (cases_Bool (begins_with_digit text)) [
   | inl digit ↦ let a = rw digit at x in let b = rw digit at y in sym a.1 ∙ b.1
@@ -103,6 +91,7 @@ one_in_form Algorithm max text m n x y = one_or_name algorithm_named max text m 
 one_in_form CertificateType max text m n x y = one_or_name certificate_type_named max text m n x y
 one_in_form Scheme max text m n x y = one_or_name scheme_named max text m n x y
 one_in_form Protocol max text m n x y = one_or_name protocol_named max text m n x y
+one_in_form Optional max text m n x y = sym x.1 ∙ y.1
 
 one_number : (way : NumberForm) (max : ℕ) (field : ℕ → FieldValue) (text : List ℕ) (v w : FieldValue) → IsNumber way max field text v → IsNumber way max field text w → v ≡ w
 one_number way max field text v w x y = x.2 ∙ ap field (one_in_form way max text x.0 y.0 x.1 y.1) ∙ sym y.2
@@ -124,7 +113,7 @@ one_word_lem origin way (kinds.Octets shown) text v w x y = absurd x
 one_word_lem origin way kinds.U8 text v w x y = one_number way 255 u8 text v w x y
 one_word_lem origin way kinds.U16 text v w x y = one_number way 65535 u16 text v w x y
 one_word_lem origin way kinds.U32 text v w x y = one_number way 4294967295 u32 text v w x y
-one_word_lem origin way kinds.Time text v w x y = x.2 ∙ ap time (one_time text x.0 y.0 x.1 y.1) ∙ sym y.2
+one_word_lem origin way kinds.Time text v w x y = x.2 ∙ ap time (times_agree text x.0 y.0 x.1 y.1) ∙ sym y.2
 one_word_lem origin way kinds.LongTime text v w x y = absurd x
 one_word_lem origin way kinds.ChaosAddress text v w x y = absurd x
 one_word_lem origin way kinds.Locator text v w x y = one_locator_field text v w x y
@@ -178,26 +167,26 @@ one_whole : (shape : Shape) (left : List ℕ) (v w : FieldValue) → AreShape sh
 one_whole Location left v w x y = one_location left v w x y
 one_whole shape left v w x y = absurd x
 
-one_list : (origin : Option NameValue) (kind : Kind) (left : List ℕ) (v w : FieldValue) → IsOctets (field_wire v) → IsOctets (field_wire w) → AreAll origin kind left v → AreAll origin kind left w → v ≡ w
-one_list origin (kinds.Octets Hex) left v w hv hw x y = x.2 ∙ ap octets (one_hex (without_spaces left) x.0 y.0 x.1 y.1) ∙ sym y.2
-one_list origin (kinds.Octets Base64) left v w hv hw x y = x.2 ∙ ap octets (one_base64 (without_spaces left) x.0 y.0 x.1 y.1) ∙ sym y.2
-one_list origin (kinds.Octets Ports) left v w hv hw x y = x.2 ∙ ap octets (one_bits Ports left x.0 y.0 x.1 y.1) ∙ sym y.2
-one_list origin (kinds.Octets OldTypes) left v w hv hw x y = x.2 ∙ ap octets (one_bits OldTypes left x.0 y.0 x.1 y.1) ∙ sym y.2
-one_list origin (kinds.Octets shown) left v w hv hw x y = absurd x.1
-one_list origin (kinds.List lists.Texts) left v w hv hw x y =
+one_list : (origin : Option NameValue) (way : NumberForm) (kind : Kind) (left : List ℕ) (v w : FieldValue) → IsOctets (field_wire v) → IsOctets (field_wire w) → AreAll origin way kind left v → AreAll origin way kind left w → v ≡ w
+one_list origin way (kinds.Octets Hex) left v w hv hw x y = x.2 ∙ ap octets (one_hex (without_spaces left) x.0 y.0 x.1.0 y.1.0) ∙ sym y.2
+one_list origin way (kinds.Octets Base64) left v w hv hw x y = x.2 ∙ ap octets (one_base64 (without_spaces left) x.0 y.0 x.1.0 y.1.0) ∙ sym y.2
+one_list origin way (kinds.Octets Ports) left v w hv hw x y = x.2 ∙ ap octets (one_bits Ports left x.0 y.0 x.1 y.1) ∙ sym y.2
+one_list origin way (kinds.Octets OldTypes) left v w hv hw x y = x.2 ∙ ap octets (one_bits OldTypes left x.0 y.0 x.1 y.1) ∙ sym y.2
+one_list origin way (kinds.Octets shown) left v w hv hw x y = absurd x.1.0
+one_list origin way (kinds.List lists.Texts) left v w hv hw x y =
     let same = one_strings left (x.0 ∷ x.1) (y.0 ∷ y.1) x.2 y.2 in
     x.4 ∙ ap (λ (own : List (List ℕ)). texts (items lists.Texts (flat_map label_wire own))) same ∙ sym y.4
-one_list origin (kinds.List lists.Types) left v w hv hw (a, own, words, are, e) (b, other, others, also, f) =
+one_list origin way (kinds.List lists.Types) left v w hv hw (a, own, words, are, e) (b, other, others, also, f) =
     let same = one_types left a b words others in
     e ∙ ap (λ (xs : List ℕ). types (items lists.Types xs)) (one_bitmap b own other (types_fit v own e hv) (types_fit w other f hw) (rw same at are) also) ∙ sym f
-one_list origin (kinds.List lists.Params) left v w hv hw (a, own, words, is, keeps, e) (b, other, others, also, kept, f) =
+one_list origin way (kinds.List lists.Params) left v w hv hw (a, own, words, is, keeps, e) (b, other, others, also, kept, f) =
     let same : own ≡ other = same_Some own other (sym is ∙ ap (in_key_order []) (one_params left a b words others) ∙ also) in
     e ∙ ap (λ (ps : List ParamValue). params (items lists.Params (params_wire ps))) same ∙ sym f
-one_list origin (kinds.List lists.Names) left v w hv hw (a, words, e) (b, others, f) =
+one_list origin way (kinds.List lists.Names) left v w hv hw (a, words, e) (b, others, f) =
     e ∙ ap (λ (listed : List (List (List ℕ))). names (items lists.Names (flat_map wire listed))) (one_names origin left a b words others) ∙ sym f
-one_list origin (kinds.Shaped shape) left v w hv hw x y = one_whole shape left v w x y
-one_list origin (kinds.List lists.Prefixes) left v w hv hw x y = one_prefixes left v w x y
-one_list origin kind left v w hv hw x y = absurd x
+one_list origin way (kinds.Shaped shape) left v w hv hw x y = one_whole shape left v w x y
+one_list origin way (kinds.List lists.Prefixes) left v w hv hw x y = one_prefixes left v w x y
+one_list origin way kind left v w hv hw x y = absurd x
 
 -- ---- three words
 
@@ -260,7 +249,7 @@ one_by : (extent : Extent) (origin : Option NameValue) (way : NumberForm) (kind 
     → IsOctets (field_wire w) → ReadsBy extent origin way kind left v r → ReadsBy extent origin way kind left w s → (v ≡ w) × (r ≡ s)
 one_by One origin way kind left v w r s hv hw x y = (one_word_lem origin way kind (word left) v w x.0 y.0, x.1 ∙ sym y.1)
 one_by Three origin way kind left v w r s hv hw x y = (one_three origin kind (word left) (word (second_word_on left)) (word (second_word_on (second_word_on left))) v w x.0 y.0, x.1 ∙ sym y.1)
-one_by All origin way kind left v w r s hv hw x y = (one_list origin kind left v w hv hw x.0 y.0, x.1 ∙ sym y.1)
+one_by All origin way kind left v w r s hv hw x y = (one_list origin way kind left v w hv hw x.0 y.0, x.1 ∙ sym y.1)
 
 one_field : (origin : Option NameValue) (way : NumberForm) (kind : Kind) (left : List ℕ) (v w : FieldValue) (r s : List ℕ) → IsOctets (field_wire v) → IsOctets (field_wire w)
     → ReadsField origin way kind left v r → ReadsField origin way kind left w s → (v ≡ w) × (r ≡ s)

@@ -19,7 +19,7 @@ has_text origin way kinds.LongTime left rest value is = absurd is.0
 has_text origin way kinds.ChaosAddress left rest value is = absurd is.0
 has_text origin way (kinds.LongCounted shown) left rest value is = absurd is.0
 has_text origin way (kinds.Shaped AddressSuffix) left rest value is = absurd is.0
-has_text origin way (kinds.Octets MaybeBase64) left rest value is = absurd is.0.1
+has_text origin way (kinds.Octets MaybeBase64) left rest value is = absurd is.0.1.0
 has_text origin way kind left rest value is = refl
 
 pub have_texts : (origin : Option NameValue) (ways : List NumberForm) (all : List Kind) (text : List ℕ) (values : List FieldValue)

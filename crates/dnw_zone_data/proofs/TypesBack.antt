@@ -6,8 +6,7 @@ use Rattle.std.specs.List.Sorted.{IsStrictlySortedBy}
 use Rattle.std.proofs.lemmas.Bool.{and_parts, cases_Bool, eqb-false, leb-true}
 use Rattle.std.proofs.lemmas.List.{take_all, take-append-drop, length-take-le}
 use Rattle.dnw_base.specs.declared.record_type.RecordType.{RecordType}
-use Rattle.dnw_base.specs.RecordTypes.{registered_type, type_cmp, type_code, type_of_code, type_of_text, type_text}
-use Rattle.dnw_base.proofs.PrintedTypes.{types_come_back}
+use Rattle.dnw_base.specs.RecordTypes.{registered_type, type_cmp, type_code, type_of_code, type_of_text}
 use Rattle.dnw_data.specs.declared.kind.Kind.TheVariants.{List as ListOf}
 use Rattle.dnw_data.specs.declared.kind.ListKind.TheVariants as lists
 use Rattle.dnw_data.specs.Lists.{fault_within, list_fault}
@@ -17,14 +16,14 @@ use Rattle.dnw_data.proofs.Sets.{settled_already}
 use Rattle.dnw_zone_values.specs.Octets.{IsOctets}
 use Rattle.dnw_zone_values.proofs.ParamTextsBack.{drop_fit, map_some}
 use Rattle.dnw_zone_data.specs.Words.{is_end, word, after_spaces}
-use Rattle.dnw_zone_data.specs.TypeLists.{is_window, codes_within, codes_text, IsTypeWord, AreTypeWords, AreBitmap, AreTypes}
+use Rattle.dnw_zone_data.specs.TypeLists.{is_window, shown_type, codes_within, codes_text, IsTypeWord, AreTypeWords, AreBitmap, AreTypes}
 use Rattle.dnw_zone_data.proofs.CodesWithin.{Within, ascending_types, octets_within, once, within_less}
 use Rattle.dnw_zone_data.specs.Generic.{generic_mark}
 use Rattle.dnw_zone_data.specs.DataTextLaws.{FieldComesBack}
 use Rattle.dnw_data.proofs.Codes.{code_back}
 use Rattle.dnw_zone_data.proofs.Items.{item_first, starts_twice}
 use Rattle.dnw_zone_data.proofs.Plain.{plain_starts, plain_word, plain_after, plain_utf8}
-use Rattle.dnw_zone_data.proofs.FieldsBack.{type_plain, type_some, type_other}
+use Rattle.dnw_zone_data.proofs.FieldsBack.{shown_back, shown_other, shown_plain, shown_some}
 
 -- ---- the windows of a bitmap
 
@@ -122,14 +121,14 @@ types_words : (least : ℕ) (codes : List ℕ) → Within least codes → AreTyp
 types_words least [] h = refl
 types_words least (code ∷ codes) h =
     let kind = type_of_code code in
-    let w = type_text kind in
+    let w = shown_type kind in
     let rest = codes_text codes in
     let few : type_code kind < 65536 = omega (arith, code_back code, h.1) in
-    let plain = type_plain kind few in
-    let is : IsTypeWord w kind = (plain_utf8 w plain, types_come_back kind few ∙ ap (λ (c : ℕ). Some (type_of_code c)) (code_back code), type_other kind) in
+    let plain = shown_plain kind few in
+    let is : IsTypeWord w kind = (plain_utf8 w plain, shown_back kind few ∙ ap (λ (c : ℕ). Some (type_of_code c)) (code_back code), shown_other kind) in
     let end = types_end codes in
-    rw (plain_starts w rest plain (type_some kind), plain_word w rest plain end, plain_after w rest plain end)
-    ((λ none. omega (arith, type_some kind, ap length none, length-append w rest)), is, types_words (code + 1) codes h.2)
+    rw (plain_starts w rest plain (shown_some kind), plain_word w rest plain end, plain_after w rest plain end)
+    ((λ none. omega (arith, shown_some kind, ap length none, length-append w rest)), is, types_words (code + 1) codes h.2)
 
 from_start : (text : List ℕ) (kinds : List RecordType) → AreTypeWords text kinds → AreTypeWords (after_spaces text) kinds
 from_start text [] h = starts_twice text ∙ h

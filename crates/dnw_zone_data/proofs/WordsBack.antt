@@ -7,24 +7,24 @@ use Rattle.std.specs.Net.Text.{ipv6_text}
 use Rattle.std.specs.declared.net.Ipv6Addr.{Ipv6Addr}
 use Rattle.std.proofs.NetLemmas.Texts.{IsColonHex-ipv6_text}
 use Rattle.std.proofs.lemmas.Nat.{from_be_bytes-to_be_bytes_8}
-use Rattle.base64.specs.Engines.{standard}
-use Rattle.base64.proofs.EngineFacts.{encode_of-nil}
 use Rattle.dnw_data.specs.declared.kind.Kind.TheVariants.{U48, U64, Ipv6, Octets}
 use Rattle.dnw_data.specs.declared.kind.Shown.TheVariants.{Base64}
 use Rattle.dnw_data.specs.Values.{u48, u64, ipv6, octets}
 use Rattle.dnw_zone_values.specs.Pairs.{lower_digit, pairs_text}
 use Rattle.dnw_zone_values.proofs.Identifiers.{pairs}
 use Rattle.dnw_zone_values.specs.Numbers.{max_u48}
-use Rattle.dnw_zone_values.specs.Octets.{IsOctets, base64_text}
+use Rattle.base64.proofs.EngineFacts.{encode_of-nil}
+use Rattle.base64.specs.Engines.{standard}
+use Rattle.dnw_zone_values.specs.Octets.{IsOctets, base64_text, IsBase64Text}
 use Rattle.dnw_zone_values.proofs.ParamTextsBack.{bare_open, ipv6_bare, base64_open, base64_some}
 use Rattle.dnw_zone_values.proofs.Steps.{no_colon_hex}
 use Rattle.dnw_zone_data.specs.Words.{is_end, word, after_spaces, without_spaces}
-use Rattle.dnw_zone_data.specs.Parsing.{AllSpell, ReadsField}
+use Rattle.dnw_zone_data.specs.Parsing.{ReadsField}
 use Rattle.dnw_zone_data.specs.Generic.{generic_mark}
 use Rattle.dnw_zone_data.specs.Printing.{base64_part}
 use Rattle.dnw_zone_data.specs.DataTextLaws.{FieldComesBack}
 use Rattle.dnw_zone_data.proofs.Plain.{is_plain, all_plain, plain_starts, plain_joined}
-use Rattle.dnw_zone_data.proofs.FieldsBack.{plain_by, plain_no_mark}
+use Rattle.dnw_zone_data.proofs.FieldsBack.{plain_by, plain_no_mark, some_given}
 
 -- ---- IPv6 addresses
 
@@ -91,7 +91,7 @@ eui64_back n few origin way printed rest print end =
 
 -- ---- octets in base 64
 
-base64_words : (own : List ℕ) → IsOctets own → AllSpell Base64 (after_spaces (base64_part own)) own
+base64_words : (own : List ℕ) → IsOctets own → IsBase64Text (without_spaces (after_spaces (base64_part own))) own
 base64_words [] h = (h, sym (encode_of-nil standard))
 base64_words (o ∷ own) h =
     let text = base64_text (o ∷ own) in
@@ -111,5 +111,5 @@ base64_end (o ∷ own) = refl
 pub base64_back : (own : List ℕ) → IsOctets own → FieldComesBack (Octets Base64) (octets own)
 base64_back own is origin way printed rest print end =
     let none : rest ≡ [] = end.0 refl in
-    let reads : ReadsField origin way (Octets Base64) (after_spaces (base64_part own)) (octets own) [] = ((own, base64_words own is, refl), refl) in
-    rw (none, print, append-nil) (reads, base64_no_mark own is, base64_end own)
+    let reads : ReadsField origin way (Octets Base64) (after_spaces (base64_part own)) (octets own) [] = ((own, (base64_words own is, some_given way own print.0), refl), refl) in
+    rw (none, print.1, append-nil) (reads, base64_no_mark own is, base64_end own)

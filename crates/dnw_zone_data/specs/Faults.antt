@@ -11,7 +11,7 @@ use Rattle.dnw_zone_data.specs.declared.error.DataTextError.TheVariants.{Wanted 
 use Rattle.dnw_zone_data.specs.declared.error.Wanted.{Wanted}
 use Rattle.dnw_zone_data.specs.declared.error.Wanted.TheVariants as wanted
 use Rattle.dnw_zone_data.specs.declared.number_form.NumberForm.{NumberForm}
-use Rattle.dnw_zone_data.specs.declared.number_form.NumberForm.TheVariants.{Decimal, Period, Algorithm, CertificateType, Scheme, Protocol}
+use Rattle.dnw_zone_data.specs.declared.number_form.NumberForm.TheVariants.{Decimal, Period, Algorithm, CertificateType, Scheme, Protocol, Optional}
 
 -- what is wanted of a number in a form, if this is wanted of one in decimal
 abbrev pub number_wanted : NumberForm → Wanted → Wanted
@@ -21,6 +21,7 @@ number_wanted Algorithm decimal = wanted.Algorithm
 number_wanted CertificateType decimal = wanted.CertificateType
 number_wanted Scheme decimal = wanted.Scheme
 number_wanted Protocol decimal = wanted.Protocol
+number_wanted Optional decimal = decimal
 
 -- what is wanted of octets up to the end
 abbrev pub octets_wanted : Shown → Wanted

@@ -1,11 +1,11 @@
 -- The form that any data have (RFC 3597, section 5): `\#`, the number of octets, and the octets in hexadecimal.
-use Rattle.std.specs.Prelude.{◌≡◌, ◌≤◌, ℕ, ◌-◌, ◌⊎◌, List, [], ◌∷◌, ◌++◌, length, codes, decimal}
+use Rattle.std.specs.Prelude.{◌≡◌, ◌≤◌, ℕ, ◌-◌, ◌⊎◌, ◌&&◌, Bool, true, not, if◌then◌else◌, List, [], ◌∷◌, ◌++◌, length, codes, decimal}
 use Rattle.dnw_zone_values.specs.Octets.{hex_text, IsHexText}
 use Rattle.dnw_zone_values.specs.Numbers.{IsNumberText}
 use Rattle.dnw_zone_data.specs.declared.error.DataTextError.{DataTextError}
 use Rattle.dnw_zone_data.specs.declared.error.DataTextError.TheVariants.{Memory}
 use Rattle.dnw_zone_data.specs.declared.error.Wanted.TheVariants.{Size, Octets}
-use Rattle.dnw_zone_data.specs.Words.{after_spaces, word, after_word, without_spaces}
+use Rattle.dnw_zone_data.specs.Words.{after_spaces, word, after_word, is_space, without_spaces}
 use Rattle.dnw_zone_data.specs.Faults.{fault}
 use Rattle.dnw_base.specs.Limits.{max_data}
 
@@ -25,9 +25,14 @@ generic_text octets = generic_mark ++ 32 ∷ decimal (length octets) ++ hex_part
 abbrev pub IsSize : List ℕ → ℕ → Type 0
 IsSize size n = IsNumberText max_data size n
 
+-- each word has an even number of digits (RFC 3597, section 5), after an even number of them or not
+abbrev pub has_even_words : Bool → List ℕ → Bool
+has_even_words even [] = even
+has_even_words even (c ∷ cs) = if is_space c then even && has_even_words true cs else has_even_words (not even) cs
+
 -- words are so many octets in hexadecimal
 abbrev pub AreHexWords : ℕ → List ℕ → List ℕ → Type 0
-AreHexWords n words octets = IsHexText (without_spaces words) octets × (length octets ≡ n)
+AreHexWords n words octets = IsHexText (without_spaces words) octets × (length octets ≡ n) × (has_even_words true words ≡ true)
 
 -- what is after the number
 abbrev pub hex_words : List ℕ → List ℕ

@@ -1,12 +1,13 @@
--- How the numbers in data of each type are written: in decimal, and those of some fields also in another form.
-use Rattle.std.specs.Prelude.{◌≡◌, ◌≤◌, ℕ, ◌==◌, ◌||◌, ◌-◌, Bool, not, true, length, slice_index, if◌then◌else◌, List, [], ◌∷◌, Some}
+-- How the numbers in data of each type are written: in decimal, and those of some fields also in another form; and which octets may be
+-- left out.
+use Rattle.std.specs.Prelude.{◌≡◌, ◌≤◌, ℕ, ◌==◌, ◌||◌, ◌-◌, Bool, not, true, false, length, slice_index, if◌then◌else◌, List, [], ◌∷◌, Some}
 use Rattle.std.specs.Char.{is_ascii_digit}
 use Rattle.std.specs.List.{list_all, list_any}
 use Rattle.dnw_zone_lexer.specs.Times.{max_ttl, time_seconds}
 use Rattle.dnw_zone_values.specs.Mnemonics.{IsNumberOrName, algorithm_named, certificate_type_named, protocol_named, scheme_named}
 use Rattle.dnw_zone_values.specs.Numbers.{IsNumberText}
 use Rattle.dnw_zone_data.specs.declared.number_form.NumberForm.{NumberForm}
-use Rattle.dnw_zone_data.specs.declared.number_form.NumberForm.TheVariants.{Decimal, Period, Algorithm, CertificateType, Scheme, Protocol}
+use Rattle.dnw_zone_data.specs.declared.number_form.NumberForm.TheVariants.{Decimal, Period, Algorithm, CertificateType, Scheme, Protocol, Optional}
 
 -- types whose second field is the number of an algorithm: SIG, DS, RRSIG, CDS, TA and DLV
 abbrev pub with_algorithm_second : List ℕ
@@ -21,12 +22,13 @@ is_one_of codes code = list_any (λ known. known == code) codes
 
 -- The forms of the first fields of data of a type. The times of SOA (RFC 1035, section 3.3.13) take units; CERT has a type of
 -- certificates and an algorithm (RFC 4398, section 2), DSYNC a scheme (RFC 9859, section 2.1), and WKS a protocol (RFC 1035, section
--- 3.4.2). Numbers of other fields are in decimal.
+-- 3.4.2). Numbers of other fields are in decimal. The key of IPSECKEY may be left out (RFC 4025, section 3.1).
 unfoldable pub number_forms : ℕ → List NumberForm
 number_forms code =
     if code == 6 then Decimal ∷ Decimal ∷ Decimal ∷ Period ∷ Period ∷ Period ∷ Period ∷ []
     else if code == 11 then Decimal ∷ Protocol ∷ []
     else if code == 37 then CertificateType ∷ Decimal ∷ Algorithm ∷ []
+    else if code == 45 then Decimal ∷ Decimal ∷ Optional ∷ []
     else if code == 66 then Decimal ∷ Scheme ∷ []
     else if is_one_of with_algorithm_second code then Decimal ∷ Algorithm ∷ []
     else if is_one_of with_algorithm_third code then Decimal ∷ Decimal ∷ Algorithm ∷ []
@@ -66,3 +68,18 @@ IsNumberIn Algorithm max text n = IsNumberOrName algorithm_named max text n
 IsNumberIn CertificateType max text n = IsNumberOrName certificate_type_named max text n
 IsNumberIn Scheme max text n = IsNumberOrName scheme_named max text n
 IsNumberIn Protocol max text n = IsNumberOrName protocol_named max text n
+IsNumberIn Optional max text n = IsNumberText max text n
+
+-- ---- octets that may be left out
+
+abbrev pub has_octets : List ℕ → Bool
+has_octets [] = false
+has_octets (o ∷ own) = true
+
+abbrev pub may_be_left_out : NumberForm → Bool
+may_be_left_out Optional = true
+may_be_left_out way = false
+
+-- there are octets, or there may be none
+abbrev pub is_given : NumberForm → List ℕ → Bool
+is_given way own = has_octets own || may_be_left_out way

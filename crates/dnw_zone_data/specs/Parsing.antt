@@ -1,5 +1,5 @@
 -- Which fields texts give (RFC 1035, section 5.1), and the octets that fields are.
-use Rattle.std.specs.Prelude.{◌≡◌, ◌≢◌, ℕ, ◌-◌, ◌⊎◌, Option, Some, List, [], ◌∷◌, length}
+use Rattle.std.specs.Prelude.{◌≡◌, ◌≢◌, ℕ, ◌-◌, ◌⊎◌, Option, Some, true, List, [], ◌∷◌, length}
 use Rattle.std.specs.Int.{w64, from_be_bytes}
 use Rattle.std.specs.Net.Addr.{ipv4_octets, ipv6_segments}
 use Rattle.std.specs.Net.Grammar.{IsIpv4Text, IsIpv6Text}
@@ -27,7 +27,7 @@ use Rattle.dnw_zone_data.specs.declared.error.Wanted.TheVariants.{End}
 use Rattle.dnw_zone_data.specs.declared.extent.Extent.{Extent}
 use Rattle.dnw_zone_data.specs.declared.extent.Extent.TheVariants.{One, Three, All}
 use Rattle.dnw_zone_data.specs.declared.number_form.NumberForm.{NumberForm}
-use Rattle.dnw_zone_data.specs.NumberForms.{first_form, other_forms, IsNumberIn}
+use Rattle.dnw_zone_data.specs.NumberForms.{first_form, is_given, other_forms, IsNumberIn}
 use Rattle.dnw_zone_data.specs.Words.{after_spaces, word, after_word, second_word_on, without_spaces}
 use Rattle.dnw_zone_data.specs.Faults.{fault, wanted_of}
 use Rattle.dnw_zone_data.specs.NameReading.{named_at}
@@ -107,11 +107,11 @@ SpellsOctets Hex text own = IsHexText text own
 SpellsOctets Base64 text own = IsBase64Text text own
 SpellsOctets shown text own = ⊥
 
--- all words write octets as one, or are the numbers of a bitmap
-abbrev pub AllSpell : Shown → List ℕ → List ℕ → Type 0
-AllSpell Ports left own = AreBits Ports left own
-AllSpell OldTypes left own = AreBits OldTypes left own
-AllSpell shown left own = SpellsOctets shown (without_spaces left) own
+-- all words write octets as one, which are not left out if the form does not say so; or they are the numbers of a bitmap
+abbrev pub AllSpell : NumberForm → Shown → List ℕ → List ℕ → Type 0
+AllSpell way Ports left own = AreBits Ports left own
+AllSpell way OldTypes left own = AreBits OldTypes left own
+AllSpell way shown left own = SpellsOctets shown (without_spaces left) own × (is_given way own ≡ true)
 
 -- all words are the items of a list
 abbrev pub AreList : Option NameValue → ListKind → List ℕ → FieldValue → Type 0
@@ -122,11 +122,11 @@ AreList origin lists.Names left value = AreListedNames origin left value
 AreList origin lists.Prefixes left value = ArePrefixes left value
 
 -- all words are a field of this kind
-abbrev pub AreAll : Option NameValue → Kind → List ℕ → FieldValue → Type 0
-AreAll origin (kinds.Octets shown) left value = (own : List ℕ) × AllSpell shown left own × (value ≡ octets own)
-AreAll origin (kinds.List list) left value = AreList origin list left value
-AreAll origin (kinds.Shaped shape) left value = AreShape shape left value
-AreAll origin kind left value = ⊥
+abbrev pub AreAll : Option NameValue → NumberForm → Kind → List ℕ → FieldValue → Type 0
+AreAll origin way (kinds.Octets shown) left value = (own : List ℕ) × AllSpell way shown left own × (value ≡ octets own)
+AreAll origin way (kinds.List list) left value = AreList origin list left value
+AreAll origin way (kinds.Shaped shape) left value = AreShape shape left value
+AreAll origin way kind left value = ⊥
 
 -- three words are a field of this kind
 abbrev pub AreThree : Option NameValue → Kind → List ℕ → List ℕ → List ℕ → FieldValue → Type 0
@@ -160,7 +160,7 @@ extent_of kind = One
 abbrev pub ReadsBy : Extent → Option NameValue → NumberForm → Kind → List ℕ → FieldValue → List ℕ → Type 0
 ReadsBy One origin way kind left value rest = IsWord origin way kind (word left) value × (rest ≡ after_word left)
 ReadsBy Three origin way kind left value rest = ReadsThree origin kind left value rest
-ReadsBy All origin way kind left value rest = AreAll origin kind left value × (rest ≡ [])
+ReadsBy All origin way kind left value rest = AreAll origin way kind left value × (rest ≡ [])
 
 -- The first words of a text are a field of this kind with its number in a form, and this is after it.
 abbrev pub ReadsField : Option NameValue → NumberForm → Kind → List ℕ → FieldValue → List ℕ → Type 0

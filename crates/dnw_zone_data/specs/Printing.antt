@@ -5,7 +5,6 @@ use Rattle.std.specs.Net.Text.{ipv4_text, ipv6_text}
 use Rattle.dnw_base.specs.declared.error.DecodeError.{DecodeError}
 use Rattle.dnw_base.specs.Decoder.{Decoder}
 use Rattle.dnw_base.specs.Names.{label_wire}
-use Rattle.dnw_base.specs.RecordTypes.{type_text}
 use Rattle.dnw_data.specs.declared.kind.Kind.{Kind}
 use Rattle.dnw_data.specs.declared.kind.Kind.TheVariants.{Counted, Octets, U16, U48, U64, Locator, NodeNumber}
 use Rattle.dnw_data.specs.declared.kind.Shown.TheVariants.{Text, Tag, Hex, Base32Hex, Base64, Nsap, Ports, OldTypes}
@@ -20,7 +19,7 @@ use Rattle.dnw_zone_values.specs.Base32.{base32_text}
 use Rattle.dnw_zone_values.specs.Pairs.{pairs_text}
 use Rattle.dnw_zone_values.specs.Times.{IsDateText}
 use Rattle.dnw_name_text.specs.NameTexts.{full_name_text}
-use Rattle.dnw_zone_data.specs.TypeLists.{PrintsTypes}
+use Rattle.dnw_zone_data.specs.TypeLists.{shown_type, PrintsTypes}
 use Rattle.dnw_zone_data.specs.ParamLists.{PrintsParams}
 use Rattle.dnw_zone_data.specs.Gateways.{PrintsShaped}
 use Rattle.dnw_zone_data.specs.Locators.{PrintsLocator, PrintsNsap}
@@ -62,10 +61,10 @@ PrintsCounted (Counted Hex) own text = text ≡ 32 ∷ salt_text own
 PrintsCounted (Counted Base32Hex) own text = (1 ≤ length own) × (text ≡ 32 ∷ base32_text own)
 PrintsCounted kind own text = ⊥
 
--- octets up to the end
+-- octets up to the end; no server reads a text that ends before them
 abbrev pub PrintsOctets : Kind → List ℕ → List ℕ → Type 0
-PrintsOctets (Octets Hex) own text = text ≡ hex_part own
-PrintsOctets (Octets Base64) own text = text ≡ base64_part own
+PrintsOctets (Octets Hex) own text = (1 ≤ length own) × (text ≡ hex_part own)
+PrintsOctets (Octets Base64) own text = (1 ≤ length own) × (text ≡ base64_part own)
 PrintsOctets (Octets Text) own text = text ≡ 32 ∷ string_text own
 PrintsOctets (Octets Nsap) own text = PrintsNsap own text
 PrintsOctets (Octets Ports) own text = PrintsBits Ports own text
@@ -93,7 +92,7 @@ Prints kind (u48 n) text = PrintsU48 kind n text
 Prints kind (u64 n) text = PrintsU64 kind n text
 Prints kind (ipv4 own) text = text ≡ 32 ∷ ipv4_text own
 Prints kind (ipv6 segments) text = text ≡ 32 ∷ ipv6_text segments
-Prints kind (type_code code) text = text ≡ 32 ∷ type_text code
+Prints kind (type_code code) text = text ≡ 32 ∷ shown_type code
 Prints kind (time seconds) text = PrintsTime seconds text
 Prints kind (counted own) text = PrintsCounted kind own text
 Prints kind (octets own) text = PrintsOctets kind own text

@@ -1,9 +1,11 @@
 -- Lists of record types (RFC 4034, section 4.2; RFC 5155, section 3.3; RFC 7477, section 2.1.2): the names of types, in any order
 -- when they are parsed, and in the order of their codes when they are printed.
-use Rattle.std.specs.Prelude.{ℕ, zero, suc, ◌≡◌, ◌≢◌, ◌-◌, ◌*◌, ◌==◌, ◌&&◌, Bool, false, not, nat_le, if◌then◌else◌, List, [], ◌∷◌, ◌++◌, length, take, drop, slice_index, flat_map, Option, Some, None, option_map}
+use Rattle.std.specs.Prelude.{ℕ, zero, suc, ◌≡◌, ◌≢◌, ◌-◌, ◌*◌, ◌==◌, ◌&&◌, Bool, false, not, nat_le, if◌then◌else◌, List, [], ◌∷◌, ◌++◌, length, take, drop, slice_index, flat_map, Option, Some, None, option_map, codes as text_codes}
+use Rattle.std.specs.List.{list_any}
 use Rattle.std.specs.Str.{IsUtf8}
+use Rattle.dnw_base.specs.CodeTexts.{numbered}
 use Rattle.dnw_base.specs.declared.record_type.RecordType.{RecordType}
-use Rattle.dnw_base.specs.RecordTypes.{type_text, type_of_code, type_of_text}
+use Rattle.dnw_base.specs.RecordTypes.{type_code as code_of, type_text, type_of_code, type_of_text}
 use Rattle.dnw_data.specs.declared.kind.ListKind.TheVariants as lists
 use Rattle.dnw_data.specs.Values.{FieldValue, type_code, types, items}
 use Rattle.dnw_data.specs.TypeSets.{IsSetOf, Encodes, set_codes, octets_codes, window_size}
@@ -26,9 +28,23 @@ codes_within (suc n) (number ∷ len ∷ bytes) =
     then option_map (λ codes. octets_codes (window_size * number) (take len bytes) ++ codes) (codes_within n (drop len bytes))
     else None
 
+-- Types whose names fewer than three of BIND, NSD, Knot, ldns and dnspython read, or of which one of them makes another type: EID, NIMLOC,
+-- ATMA, SINK, NINFO, RKEY, TALINK, DSYNC, HHIT, BRID, UINFO, UID, GID, UNSPEC, NXNAME, AVC, DOA, AMTRELAY, RESINFO, WALLET, CLA, IPN and
+-- TA.
+abbrev pub unread_names : List ℕ
+unread_names =
+    31 ∷ 32 ∷ 34 ∷ 40 ∷ 56 ∷ 57 ∷ 58 ∷ 66 ∷ 67 ∷ 68 ∷ 100 ∷ 101 ∷ 102 ∷ 103 ∷ 128 ∷ 258 ∷ 259 ∷ 260 ∷ 261 ∷ 262 ∷ 263 ∷ 264 ∷ 32768 ∷ []
+
+unfoldable pub has_unread_name : ℕ → Bool
+has_unread_name code = list_any (λ known. known == code) unread_names
+
+-- the text of a type in data: its name, or `TYPE` and its code, which all of them read (RFC 3597, section 5)
+abbrev pub shown_type : RecordType → List ℕ
+shown_type kind = if has_unread_name (code_of kind) then numbered (text_codes "TYPE") (code_of kind) else type_text kind
+
 -- a type after a space
 abbrev pub code_text : ℕ → List ℕ
-code_text code = 32 ∷ type_text (type_of_code code)
+code_text code = 32 ∷ shown_type (type_of_code code)
 
 abbrev pub codes_text : List ℕ → List ℕ
 codes_text codes = flat_map code_text codes

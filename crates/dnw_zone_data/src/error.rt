@@ -210,7 +210,7 @@ fn number_wanted(form: NumberForm, decimal: Wanted) -> Wanted
     ensures { result ≡ number_wanted form decimal }
 {
     match form {
-        NumberForm::Decimal => decimal,
+        NumberForm::Decimal | NumberForm::Optional => decimal,
         NumberForm::Period => Wanted::Period,
         NumberForm::Algorithm => Wanted::Algorithm,
         NumberForm::CertificateType => Wanted::CertificateType,

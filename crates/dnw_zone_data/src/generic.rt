@@ -1,11 +1,11 @@
 //! The form that any data have (RFC 3597, section 5).
-ghost use Rattle.std.specs.Prelude.{◌≡◌, ◌≤◌, ℕ, List, [], length, Some, IfOk, OnErr, IfErr, MatchResult, MatchOption};
+ghost use Rattle.std.specs.Prelude.{◌≡◌, ◌≤◌, ℕ, List, [], true, length, Some, IfOk, OnErr, IfErr, MatchResult, MatchOption};
 ghost use Rattle.dnw_zone_data.specs.Faults.{fault};
 ghost use Rattle.dnw_zone_data.specs.Words.{without_spaces};
-ghost use Rattle.dnw_zone_data.specs.Generic.{generic_text, hex_words, IsSize, AreHexWords, IsSized, FailsSized};
+ghost use Rattle.dnw_zone_data.specs.Generic.{generic_text, has_even_words, hex_words, IsSize, AreHexWords, IsSized, FailsSized};
 
 use crate::error::{DataTextError, Wanted};
-use crate::words::{after_spaces, split_word, without_spaces};
+use crate::words::{after_spaces, is_space, split_word, without_spaces};
 use dnw_zone_values::error::FieldTextError;
 use dnw_zone_values::number::number_up_to;
 use dnw_zone_values::octets::{Hexadecimal, read_hexadecimal};
@@ -83,6 +83,23 @@ fn no_octets(alloc: Global, size: u16) -> Option<Vec<u8>>
     }
 }
 
+/// Returns `true` if each word has an even number of digits.
+fn has_even_words(words: &[u8]) -> bool
+    ensures { result ≡ has_even_words true words.now }
+{
+    let mut is_even = true;
+    let mut left = words;
+    while let Some((c, rest)) = left.split_first() {
+        if !is_space(*c) {
+            is_even = !is_even;
+        } else if !is_even {
+            return false;
+        }
+        left = rest;
+    }
+    is_even
+}
+
 /// Returns the octets that words write in hexadecimal, if there are so many. Without words it takes no memory.
 fn octets_of(alloc: Global, size: u16, words: &[u8]) -> Result<Option<Vec<u8>>, AllocError>
     ensures ok { IfOk result (λ x. MatchOption x ((octets : List ℕ) → ¬ (AreHexWords size words.now octets)) (λ octets. AreHexWords size words.now octets.items)) }
@@ -90,6 +107,9 @@ fn octets_of(alloc: Global, size: u16, words: &[u8]) -> Result<Option<Vec<u8>>, 
 {
     if words.is_empty() {
         return Ok(no_octets(alloc, size));
+    }
+    if !has_even_words(words) {
+        return Ok(None);
     }
     let joined = without_spaces(alloc, words)?;
     let mut octets = Vec::new(alloc);

@@ -1,10 +1,10 @@
-//! How the numbers in data of each type are written.
+//! How the numbers in data of each type are written, and which octets may be left out.
 ghost use Rattle.std.specs.Prelude.{◌≡◌, ◌≤◌, ℕ, false, length, IfNone, IfSome, MatchOption};
 ghost use Rattle.std.specs.Char.{is_ascii_digit};
 ghost use Rattle.std.specs.List.{list_all};
 ghost use Rattle.dnw_base.specs.RecordTypes.{type_code};
 ghost use Rattle.dnw_zone_values.specs.Numbers.{max_u8, max_u16, max_u32, IsNumberText};
-ghost use Rattle.dnw_zone_data.specs.NumberForms.{ends_with_digit, first_form, is_one_of, is_whole, most_short, number_forms, other_forms, with_algorithm_second, with_algorithm_third, IsNumberIn, IsPeriod};
+ghost use Rattle.dnw_zone_data.specs.NumberForms.{ends_with_digit, first_form, is_one_of, is_whole, may_be_left_out, most_short, number_forms, other_forms, with_algorithm_second, with_algorithm_third, IsNumberIn, IsPeriod};
 ghost use Rattle.dnw_zone_data.specs.Words.{after_word, is_end, word};
 
 use dnw_base::record_type::RecordType;
@@ -14,7 +14,7 @@ use dnw_zone_values::mnemonic::{
 };
 use dnw_zone_values::number::number_up_to;
 
-/// How a number is written. Each is printed in decimal.
+/// How a number is written, and octets up to the end. Each number is printed in decimal.
 #[derive(Clone, Copy, Debug, PartialEq, Eq)]
 pub enum NumberForm {
     /// In decimal.
@@ -29,6 +29,8 @@ pub enum NumberForm {
     Scheme,
     /// As the number or the name of a protocol: `TCP`.
     Protocol,
+    /// A number in decimal, or octets that may be left out.
+    Optional,
 }
 
 /// The greatest number that is given one more digit.
@@ -50,6 +52,13 @@ const CERT: &[NumberForm] = &[
     NumberForm::CertificateType,
     NumberForm::Decimal,
     NumberForm::Algorithm,
+];
+
+/// The forms of the fields of an IPSECKEY record.
+const IPSECKEY: &[NumberForm] = &[
+    NumberForm::Decimal,
+    NumberForm::Decimal,
+    NumberForm::Optional,
 ];
 
 /// The forms of the first fields of a DSYNC record.
@@ -77,6 +86,7 @@ pub(crate) fn number_forms(record_type: RecordType) -> &'static [NumberForm]
         6 => SOA,
         11 => WKS,
         37 => CERT,
+        45 => IPSECKEY,
         66 => DSYNC,
         24 | 43 | 46 | 59 | 32768 | 32769 => SECOND,
         25 | 48 | 57 | 60 => THIRD,
@@ -93,6 +103,13 @@ pub(crate) fn next_form(forms: &[NumberForm]) -> (NumberForm, &[NumberForm])
         [form, others @ ..] => (*form, others),
         [] => (NumberForm::Decimal, forms),
     }
+}
+
+/// Returns `true` if octets in a form may be left out.
+pub(crate) fn may_be_left_out(form: NumberForm) -> bool
+    ensures { result ≡ may_be_left_out form }
+{
+    matches!(form, NumberForm::Optional)
 }
 
 /// Returns the number of one octet that a text is in a form.
@@ -124,7 +141,7 @@ fn number_in(form: NumberForm, text: &[u8], max: u32) -> Option<u32>
     ensures few { IfSome result (λ n. n ≤ max) }
 {
     match form {
-        NumberForm::Decimal => decimal_in(text, max),
+        NumberForm::Decimal | NumberForm::Optional => decimal_in(text, max),
         NumberForm::Period => period_in(text, max),
         NumberForm::Algorithm => algorithm_in(text, max),
         NumberForm::CertificateType => certificate_type_in(text, max),

@@ -8,6 +8,7 @@ ghost use Rattle.dnw_zone_data.specs.Parsing.{IsNameField, IsNumberOf, AreOctets
 ghost use Rattle.dnw_data.specs.FieldWires.{field_wire};
 ghost use Rattle.dnw_zone_data.specs.Inside.Reads.{AppendsRest, HasNumber, LacksField, is_number};
 ghost use Rattle.dnw_zone_data.specs.Appending.{AppendsOne};
+ghost use Rattle.dnw_zone_data.specs.NumberForms.{is_given};
 ghost use Rattle.dnw_zone_data.specs.Words.{after_spaces, without_spaces};
 ghost use Rattle.dnw_zone_data.specs.Faults.{fault};
 ghost use Rattle.dnw_zone_data.specs.declared.extent.Extent.TheVariants.{One};
@@ -21,7 +22,9 @@ use crate::gateways::{parse_shape, parse_whole};
 use crate::locators::{parse_locator, parse_node_number, parse_nsap};
 use crate::name::append_name;
 use crate::name_lists::parse_names;
-use crate::number_form::{NumberForm, first_number, next_form, u8_in, u16_in, u32_in};
+use crate::number_form::{
+    NumberForm, first_number, may_be_left_out, next_form, u8_in, u16_in, u32_in,
+};
 use crate::params::{params_wanted, parse_params};
 use crate::prefixes::parse_prefixes;
 use crate::spelling::{pairs_of, push_octets, push_spelled, push_text};
@@ -182,7 +185,7 @@ fn parse_by<'t>(
 {
     match extent {
         Extent::All => {
-            if parse_all(alloc, kind, left, origin, out)? {
+            if parse_all(alloc, form, kind, left, origin, out)? {
                 Ok(&[])
             } else {
                 Err(Refused::Text)
@@ -287,15 +290,16 @@ fn parse_words(
 /// Appends the octets of the field that all words are. Returns `false` if they are none of this kind.
 fn parse_all(
     alloc: Global,
+    form: NumberForm,
     kind: Kind,
     left: &[u8],
     origin: Option<&Name>,
     out: &mut Vec<u8>,
 ) -> Result<bool, AllocError>
-    ensures { IfOk result (AppendsOne (AreAll (option_copied origin.entry) kind left.now) out.old.items out.new.items) }
+    ensures { IfOk result (AppendsOne (AreAll (option_copied origin.entry) form kind left.now) out.old.items out.new.items) }
 {
     match kind {
-        Kind::Octets(shown) => parse_all_octets(alloc, shown, left, out),
+        Kind::Octets(shown) => parse_all_octets(alloc, form, shown, left, out),
         Kind::Shaped(shape) => parse_whole(shape, left, out),
         Kind::List(list) => parse_list(alloc, list, left, origin, out),
         _ => Ok(false),
@@ -305,17 +309,38 @@ fn parse_all(
 /// Appends the octets that all words write as one, or the bitmap of the numbers that they are. Returns `false` if they write none.
 fn parse_all_octets(
     alloc: Global,
+    form: NumberForm,
     shown: Shown,
     left: &[u8],
     out: &mut Vec<u8>,
 ) -> Result<bool, AllocError>
-    ensures { IfOk result (AppendsOne (λ value. (own : List ℕ) × AllSpell shown left.now own × (value ≡ octets own)) out.old.items out.new.items) }
+    ensures { IfOk result (AppendsOne (λ value. (own : List ℕ) × AllSpell form shown left.now own × (value ≡ octets own)) out.old.items out.new.items) }
 {
     match shown {
         Shown::Ports => parse_bits(alloc, Shown::Ports, left, out),
         Shown::OldTypes => parse_bits(alloc, Shown::OldTypes, left, out),
-        _ => parse_joined(alloc, shown, left, out),
+        _ => parse_given(alloc, form, shown, left, out),
     }
+}
+
+/// Appends the octets that all words write as one. Returns `false` if they write none, or are left out and may not be.
+fn parse_given(
+    alloc: Global,
+    form: NumberForm,
+    shown: Shown,
+    left: &[u8],
+    out: &mut Vec<u8>,
+) -> Result<bool, AllocError>
+    ensures { IfOk result (AppendsOne (λ value. (own : List ℕ) × (SpellsOctets shown (without_spaces left.now) own × (is_given form own ≡ true)) × (value ≡ octets own)) out.old.items out.new.items) }
+{
+    let start = out.len();
+    if !parse_joined(alloc, shown, left, out)? {
+        return Ok(false);
+    }
+    if out.len() == start {
+        return Ok(may_be_left_out(form));
+    }
+    Ok(true)
 }
 
 /// Appends the octets that all words write as one. Returns `false` if they write none.

@@ -13,7 +13,7 @@ use crate::name::write_name;
 use crate::name_lists::write_names;
 use crate::params::write_param_list;
 use crate::prefixes::write_prefixes;
-use crate::types::write_types;
+use crate::types::{push_type, write_types};
 use dnw_data::field::Field;
 use dnw_data::fields::Fields;
 use dnw_data::kind::{Kind, Shown};
@@ -88,7 +88,7 @@ fn write_field(
         Field::Ipv6(address) => write!(out, " {address}")?,
         Field::TypeCode(code) => {
             out.push(' ')?;
-            out.push_str(code.to_text().as_str())?;
+            push_type(*code, out)?;
         }
         Field::Time(seconds) => write_time(seconds.get(), out)?,
         Field::Counted(octets) => return write_counted(kind, octets, out),
@@ -175,7 +175,7 @@ fn write_tag(octets: &[u8], out: &mut String) -> Result<bool, AllocError>
     Ok(true)
 }
 
-/// Appends the text of octets up to the end.
+/// Appends the text of octets up to the end. Returns `false` if they have none.
 fn write_octets(kind: Kind, octets: &[u8], out: &mut String) -> Result<bool, AllocError>
     ensures { IfOk result (Appended (PrintsOctets kind octets.now) (string_bytes out.old) (string_bytes out.new)) }
 {
@@ -183,7 +183,6 @@ fn write_octets(kind: Kind, octets: &[u8], out: &mut String) -> Result<bool, All
         Kind::Octets(Shown::Text) => write!(out, " {}", CharacterString(octets))?,
         Kind::Octets(Shown::Hex) if !octets.is_empty() => write!(out, " {}", Hexadecimal(octets))?,
         Kind::Octets(Shown::Base64) if !octets.is_empty() => write!(out, " {}", Base64(octets))?,
-        Kind::Octets(Shown::Hex | Shown::Base64) => {}
         Kind::Octets(Shown::Nsap) => write!(out, " {}", Nsap(octets))?,
         Kind::Octets(Shown::Ports) => return write_bits(Shown::Ports, octets, out),
         Kind::Octets(Shown::OldTypes) => return write_bits(Shown::OldTypes, octets, out),

@@ -1,9 +1,10 @@
 //! Lists of record types: the types of a bitmap (RFC 4034, section 4.2).
 ghost use Rattle.std.specs.Prelude.{◌≡◌, ◌≤◌, ◌<◌, ◌+◌, ◌*◌, ◌++◌, ℕ, List, true, false, length, IfOk, IfSome, MatchOption, string_bytes};
 ghost use Rattle.dnw_base.specs.declared.record_type.RecordType.{RecordType};
+ghost use Rattle.dnw_base.specs.RecordTypes.{type_code};
 ghost use Rattle.dnw_data.specs.TypeSets.{bit_codes, octet_codes, octets_codes};
 ghost use Rattle.dnw_zone_data.specs.Bitmaps.{number_text, numbers_text};
-ghost use Rattle.dnw_zone_data.specs.TypeLists.{is_window, PrintsTypes, IsTypeField, IsTypeWord, AreTypeWords, AreBitmap, AreTypes};
+ghost use Rattle.dnw_zone_data.specs.TypeLists.{has_unread_name, is_window, shown_type, PrintsTypes, IsTypeField, IsTypeWord, AreTypeWords, AreBitmap, AreTypes};
 ghost use Rattle.dnw_zone_data.specs.Appending.{Appended, AppendedInPart, AppendsOne};
 
 use crate::words::{after_spaces, is_asterisk, split_word};
@@ -117,11 +118,32 @@ fn write_number(shown: Shown, number: u16, out: &mut String) -> Result<(), Alloc
     match shown {
         Shown::OldTypes => {
             out.push(' ')?;
-            out.push_str(RecordType::from(number).to_text().as_str())?;
+            push_type(RecordType::from(number), out)?;
         }
         _ => write!(out, " {number}")?,
     }
     Ok(())
+}
+
+/// Appends a type: its name, or `TYPE` and its code if few servers read its name.
+pub(crate) fn push_type(record_type: RecordType, out: &mut String) -> Result<(), AllocError>
+    ensures { IfOk result (λ _. string_bytes out.new ≡ string_bytes out.old ++ shown_type record_type) }
+{
+    if has_unread_name(record_type) {
+        return write!(out, "TYPE{}", u16::from(record_type));
+    }
+    out.push_str(record_type.to_text().as_str())
+}
+
+/// Returns `true` for types whose names few servers read.
+#[tactic(auto, unfolding(crate::specs::TypeLists::has_unread_name))]
+fn has_unread_name(record_type: RecordType) -> bool
+    ensures { result ≡ has_unread_name (type_code record_type) }
+{
+    matches!(
+        u16::from(record_type),
+        31 | 32 | 34 | 40 | 56..=58 | 66..=68 | 100..=103 | 128 | 258..=264 | 32768
+    )
 }
 
 /// Appends the bitmap of the types that all words are. Returns `false` if one is no type.

@@ -37,7 +37,7 @@ static CLASSES: [u8; 256] = [
 ];
 
 /// Returns `true` if a character is white space: a space, a tab, or the end of a line.
-fn is_space(c: u8) -> bool
+pub(crate) fn is_space(c: u8) -> bool
     ensures { result ≡ is_space c }
 {
     c == b' ' || c == b'\t' || c == b'\r' || c == b'\n'

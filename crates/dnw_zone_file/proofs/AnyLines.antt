@@ -1,6 +1,7 @@
 -- A line of a record begins a text whose first entry is that record, and is read as no other, whatever is left out of it.
 use Rattle.std.proofs.Common.{◌≡◌, ◌<◌, ◌+◌, ◌⊎◌, ℕ, Bool, List, [], ◌∷◌, ◌++◌, length, refl, sym, ap, ◌∙◌, subst, arith, append_assoc, length-append, inl, inr}
 use Rattle.std.specs.Prelude.{Option, Some, Result, Ok, Err}
+use Rattle.std.specs.Option.{option_or}
 use Rattle.std.proofs.lemmas.Option.{same_Some}
 use Rattle.dnw_base.specs.DnsClasses.{class_code}
 use Rattle.dnw_base.specs.Limits.{max_data}
@@ -28,7 +29,7 @@ use Rattle.dnw_zone_file.specs.declared.head.Head.{Head}
 use Rattle.dnw_zone_file.specs.declared.step.Found.{Found}
 use Rattle.dnw_zone_file.specs.declared.step.Found.TheVariants.{Entry as IsOne, End, More}
 use Rattle.dnw_zone_file.specs.declared.step.Step.{Step}
-use Rattle.dnw_zone_file.specs.Contexts.{class_after, ttl_after, with_record}
+use Rattle.dnw_zone_file.specs.Contexts.{class_after, minimum_after, record_ttl, ttl_after, unstated_minimum, with_minimum, with_record}
 use Rattle.dnw_zone_file.specs.Entries.{IsEntry, IsRecordData, IsZoneRecord}
 use Rattle.dnw_zone_file.specs.Heads.{IsZoneHead}
 use Rattle.dnw_zone_file.specs.Steps.{IsEntryFound, IsStep, IsStepAt}
@@ -42,13 +43,13 @@ use Rattle.dnw_zone_values.specs.Octets.{IsOctets}
 use Rattle.dnw_zone_record.specs.declared.scan.Ending.{Ending}
 use Rattle.dnw_zone_record.specs.declared.scan.Ending.TheVariants.{Line}
 use Rattle.dnw_zone_record.specs.declared.scan.Place.TheVariants.{Words}
-use Rattle.dnw_zone_record.specs.Lines.{line_of}
+use Rattle.dnw_zone_record.specs.Lines.{is_indented, line_of}
 
 -- The line is the record's, with this after the owner: the head, and the text of the data.
 pub record IsLine (before : Context) (r : RecordValue) (line left text : List ℕ) (head : Head) : Type 0 where
   pub kept : Keeps Words (spaced text) Words → Keeps Words line Words
-  pub is : (entry : Entry) (after : Context) → IsZoneRecord before r.owner left entry after → IsEntry before line entry after
-  pub only : (entry : Entry) (after : Context) → IsEntry before line entry after → IsZoneRecord before r.owner left entry after
+  pub is : (entry : Entry) (after : Context) → IsZoneRecord before r.owner left entry after → IsEntry before (is_indented line) line entry after
+  pub only : (entry : Entry) (after : Context) → IsEntry before (is_indented line) line entry after → IsZoneRecord before r.owner left entry after
   pub head_is : IsZoneHead left head (spaced text)
   pub ttl : ttl_after before head.ttl ≡ Some r.ttl
   pub class : class_after before head.class ≡ r.class
@@ -56,18 +57,29 @@ pub record IsLine (before : Context) (r : RecordValue) (line left text : List �
 
 -- ---- the step
 
+-- a line feed is no white space at the beginning of a line
+same_indent : (line rest : List ℕ) → is_indented (line ++ 10 ∷ rest) ≡ is_indented line
+same_indent [] rest = refl
+same_indent (c ∷ cs) rest = refl
+
 -- a step over a line, and what is after it
 pub line_step : (before after : Context) (line rest : List ℕ) (more : Bool) (step : Step) → line_of (line ++ 10 ∷ rest) ≡ (line, Line)
-    → IsEntryFound before line (length line + 1) step after → IsStep before (line ++ 10 ∷ rest) more step after
+    → IsEntryFound before (is_indented line) line (length line + 1) step after → IsStep before (line ++ 10 ∷ rest) more step after
 line_step before after line rest more step is found =
-    inr (inl ((λ none. omega (arith, ap length none, length-append line (10 ∷ rest))), line, Line, is, found))
+    inr (inl (
+      (λ none. omega (arith, ap length none, length-append line (10 ∷ rest))),
+      line,
+      Line,
+      is,
+      subst (λ (b : Bool). IsEntryFound before b line (length line + 1) step after) (sym (same_indent line rest)) found,
+    ))
 
 -- the step that is an entry, over a line and its line feed
 abbrev pub entry_step : List ℕ → Entry → Step
 entry_step line entry = record { used = length (line ++ 10 ∷ []); found = Ok (IsOne entry) }
 
 -- an entry of a line is the first one of a text that begins with it
-pub begins : (before after : Context) (line rest : List ℕ) (more : Bool) (entry : Entry) → Keeps Words line Words → IsEntry before line entry after
+pub begins : (before after : Context) (line rest : List ℕ) (more : Bool) (entry : Entry) → Keeps Words line Words → IsEntry before (is_indented line) line entry after
     → IsStep before ((line ++ 10 ∷ []) ++ rest) more (entry_step line entry) after
 begins before after line rest more entry kept is =
     let short : Step = record { used = length line + 1; found = Ok (IsOne entry) } in
@@ -87,16 +99,16 @@ same_found : (a b : Entry) (x y : Result Found ZoneError) → x ≡ Ok (IsOne a)
 unfolding of_found
 same_found a b x y f g e = ap (of_found a) (sym f ∙ e ∙ g)
 
-found_only : (before after : Context) (line : List ℕ) (size used : ℕ) (entry : Entry)
-    → IsEntryFound before line size (record { used = used; found = Ok (IsOne entry) }) after → IsEntry before line entry after × (used ≡ size)
-found_only before after line size used entry (inl (other, is, e)) =
+found_only : (before after : Context) (indented : Bool) (line : List ℕ) (size used : ℕ) (entry : Entry)
+    → IsEntryFound before indented line size (record { used = used; found = Ok (IsOne entry) }) after → IsEntry before indented line entry after × (used ≡ size)
+found_only before after indented line size used entry (inl (other, is, e)) =
     let same : entry ≡ other = same_found entry other _ _ refl refl (ap (λ (s : Step). s.found) e) in
-    (subst (λ (x : Entry). IsEntry before line x after) (sym same) is, ap (λ (s : Step). s.used) e)
-found_only before after line size used entry (inr (error, fails, e, same)) =
+    (subst (λ (x : Entry). IsEntry before indented line x after) (sym same) is, ap (λ (s : Step). s.used) e)
+found_only before after indented line size used entry (inr (error, fails, e, same)) =
     let no : Ok (IsOne entry) ≡ Err error = ap (λ (s : Step). s.found) e in absurd cc
 
 line_only : (before after : Context) (line rest : List ℕ) (more : Bool) (used : ℕ) (entry : Entry) → line_of (line ++ 10 ∷ rest) ≡ (line, Line)
-    → IsStep before (line ++ 10 ∷ rest) more (record { used = used; found = Ok (IsOne entry) }) after → IsEntry before line entry after × (used ≡ length line + 1)
+    → IsStep before (line ++ 10 ∷ rest) more (record { used = used; found = Ok (IsOne entry) }) after → IsEntry before (is_indented line) line entry after × (used ≡ length line + 1)
 line_only before after line rest more used entry scanned (inl (none, e, same)) = absurd (omega (arith, ap length none, length-append line (10 ∷ rest)))
 line_only before after line rest more used entry scanned (inr (inl (some, other, ending, is, at))) =
     let pair : (other, ending) ≡ (line, Line) = sym is ∙ scanned in
@@ -106,14 +118,16 @@ line_only before after line rest more used entry scanned (inr (inl (some, other,
     let moved : IsStepAt before (line ++ 10 ∷ rest) more line Line step after =
     subst (λ (e : Ending). IsStepAt before (line ++ 10 ∷ rest) more line e step after) ends
     (subst (λ (l : List ℕ). IsStepAt before (line ++ 10 ∷ rest) more l ending step after) same at) in
-    found_only before after line (length line + 1) used entry moved
+    let indents = same_indent line rest in
+    found_only before after (is_indented line) line (length line + 1) used entry
+    (subst (λ (b : Bool). IsEntryFound before b line (length line + 1) step after) indents moved)
 line_only before after line rest more used entry scanned (inr (inr (e, same))) =
     let no : Ok (IsOne entry) ≡ Err Memory = ap (λ (s : Step). s.found) e in absurd cc
 
 -- the first entry of a text that begins with a line is the entry of the line
 pub begins_only : (before after : Context) (line rest : List ℕ) (more : Bool) (used : ℕ) (entry : Entry) → Keeps Words line Words
     → IsStep before ((line ++ 10 ∷ []) ++ rest) more (record { used = used; found = Ok (IsOne entry) }) after
-    → IsEntry before line entry after × (used ≡ length (line ++ 10 ∷ []))
+    → IsEntry before (is_indented line) line entry after × (used ≡ length (line ++ 10 ∷ []))
 begins_only before after line rest more used entry kept step =
     let found : Step = record { used = used; found = Ok (IsOne entry) } in
     let moved : IsStep before (line ++ 10 ∷ rest) more found after =
@@ -164,15 +178,25 @@ has_data before b p e r text h at print =
 
 -- ---- the record
 
+-- No minimum stands for a time to live that is stated.
+stated : (before : Context) (head : Head) (wire : List ℕ) (ttl : ℕ) → ttl_after before head.ttl ≡ Some ttl
+    → (record_ttl before head wire ≡ Some ttl) × (with_minimum before (minimum_after before head wire) ≡ before)
+stated before head wire ttl is = (
+  ap (λ (t : Option ℕ). option_or t (option_or (minimum_after before head wire) before.fallback_ttl)) is,
+  ap (λ (t : Option ℕ). with_minimum before (unstated_minimum t head.record_type wire)) is,
+)
+
 -- the line with these data is the record
 pub line_begins : (before : Context) (r : RecordValue) (line left text own rest : List ℕ) (head : Head) (more : Bool) (found : ZoneRecord) → IsLine before r line left text head
     → HasData before r text own → IsSameRecord r own found
     → IsStep before ((line ++ 10 ∷ []) ++ rest) more (entry_step line (RecordEntry found)) (with_record before r.owner head)
 line_begins before r line left text own rest head more found is has same =
     let moved : IsDataOf (Some before.origin) found.class found.record_type (spaced text) found.wire.items = rw (same.0, same.1, same.3) has.data_is in
-    let data_of : IsRecordData before left head found = (spaced text, is.head_is, is.ttl ∙ ap Some (sym same.2), same.1 ∙ sym is.class, same.0 ∙ sym is.kind, moved) in
+    let (ttl, context) = stated before head found.wire.items r.ttl is.ttl in
+    let data_of : IsRecordData before left head found = (spaced text, is.head_is, ttl ∙ ap Some (sym same.2), same.1 ∙ sym is.class, same.0 ∙ sym is.kind, moved) in
     begins before (with_record before r.owner head) line rest more (RecordEntry found) (is.kept has.kept)
-    (is.is (RecordEntry found) (with_record before r.owner head) (head, found, data_of, refl, refl))
+    (is.is (RecordEntry found) (with_record before r.owner head)
+    (head, found, data_of, refl, ap (λ (c : Context). with_record c r.owner head) (sym context)))
 
 -- and what is read of it is that record
 same_record : (before after : Context) (r : RecordValue) (line left text own : List ℕ) (head : Head) (entry : Entry) → IsLine before r line left text head
@@ -182,7 +206,8 @@ same_record before after r line left text own head entry is has octets (other, f
     let (heads, lefts) = one_head left other head rest (spaced text) head_is is.head_is in
     let kinds : found.record_type ≡ r.record_type = kind ∙ ap (λ (x : Head). x.record_type) heads ∙ is.kind in
     let classes : found.class ≡ r.class = class ∙ ap (λ (x : Head). class_after before x.class) heads ∙ is.class in
-    let ttls : found.ttl ≡ r.ttl = same_Some found.ttl r.ttl (sym ttl ∙ ap (λ (x : Head). ttl_after before x.ttl) heads ∙ is.ttl) in
+    let (known, context) = stated before other found.wire.items r.ttl (ap (λ (x : Head). ttl_after before x.ttl) heads ∙ is.ttl) in
+    let ttls : found.ttl ≡ r.ttl = same_Some found.ttl r.ttl (sym ttl ∙ known) in
     let origin = Some before.origin in
     let items = found.wire.items in
     let moved : IsDataOf origin r.class r.record_type (spaced text) items =
@@ -191,7 +216,7 @@ same_record before after r line left text own head entry is has octets (other, f
     let fit_too : IsOctets items = subst HasDataOctets e octets in
     let same : items ≡ own =
     unambiguous origin (number_forms (type_code r.record_type)) (fields_of (class_code r.class) (type_code r.record_type)) (spaced text) items own fit_too has.fit moved.0 has.data_is.0 in
-    (subst (λ (x : Entry). IsWrittenRecord r own x) (sym e) (kinds, classes, ttls, same), a ∙ ap (λ (x : Head). with_record before r.owner x) heads)
+    (subst (λ (x : Entry). IsWrittenRecord r own x) (sym e) (kinds, classes, ttls, same), a ∙ ap (λ (c : Context). with_record c r.owner other) context ∙ ap (λ (x : Head). with_record before r.owner x) heads)
 
 pub line_read_back : (before after : Context) (r : RecordValue) (line left text own rest : List ℕ) (head : Head) (more : Bool) (entry : Entry) (used : ℕ)
     → IsLine before r line left text head → HasData before r text own

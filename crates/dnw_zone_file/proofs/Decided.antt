@@ -1,5 +1,5 @@
 -- A whole text that is not empty begins with an entry, or with an error.
-use Rattle.std.proofs.Common.{◌≡◌, ◌≢◌, ℕ, false, List, [], refl, sym, subst, inl, inr}
+use Rattle.std.proofs.Common.{◌≡◌, ◌≢◌, ℕ, Bool, false, List, [], refl, sym, subst, inl, inr}
 use Rattle.std.specs.Prelude.{⊤, Option, Some, None, Result, Ok, Err}
 use Rattle.dnw_zone_record.specs.declared.word_error.WordRule.{WordRule}
 use Rattle.dnw_zone_record.specs.declared.scan.Ending.{Ending}
@@ -24,17 +24,17 @@ IsDecided (Err error) = ⊤
 by_step : (step found : Step) → step ≡ found → IsDecided found.found → IsDecided step.found
 by_step step found e h = subst (λ (s : Step). IsDecided s.found) (sym e) h
 
-wrong_decided : (text : List ℕ) (offset : ℕ) (rule : WordRule) (len : Option ℕ) → IsDecided (wrong_step false text offset rule len).found
-wrong_decided text offset rule None = tt
-wrong_decided text offset rule (Some len) = tt
+wrong_decided : (text : List ℕ) (end : ℕ) (rule : WordRule) (len : Option ℕ) → IsDecided (wrong_step false text end rule len).found
+wrong_decided text end rule None = tt
+wrong_decided text end rule (Some len) = tt
 
-found_decided : (before after : Context) (line : List ℕ) (used : ℕ) (step : Step) → IsEntryFound before line used step after → IsDecided step.found
-found_decided before after line used step (inl (entry, is, e)) = by_step step _ e tt
-found_decided before after line used step (inr (error, fails, e, same)) = by_step step _ e tt
+found_decided : (before after : Context) (indented : Bool) (line : List ℕ) (used : ℕ) (step : Step) → IsEntryFound before indented line used step after → IsDecided step.found
+found_decided before after indented line used step (inl (entry, is, e)) = by_step step _ e tt
+found_decided before after indented line used step (inr (error, fails, e, same)) = by_step step _ e tt
 
 at_decided : (before after : Context) (text line : List ℕ) (ending : Ending) (step : Step) → IsStepAt before text false line ending step after → IsDecided step.found
-at_decided before after text line Line step is = found_decided before after line _ step is
-at_decided before after text line Text step is = found_decided before after line _ step is
+at_decided before after text line Line step is = found_decided before after _ line _ step is
+at_decided before after text line Text step is = found_decided before after _ line _ step is
 at_decided before after text line (Cut rule) step (e, same) = by_step step _ e tt
 at_decided before after text line (WrongWords rule) step (e, same) = by_step step _ e (wrong_decided text _ rule _)
 

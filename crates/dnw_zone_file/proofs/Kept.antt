@@ -16,22 +16,22 @@ use Rattle.dnw_zone_record.specs.Lines.{added_octet, is_quoted, ends_line, line_
 
 -- A text stays as it is, and leads from one place to another, whatever is before it and after it.
 abbrev pub Keeps : Place → List ℕ → Place → Type 0
-Keeps here text there = (so rest : List ℕ) → line_from so here false (text ++ rest) ≡ line_from (so ++ text) there false rest
+Keeps here text there = (so rest : List ℕ) → line_from so here 0 (text ++ rest) ≡ line_from (so ++ text) there 0 rest
 
 pub keeps_none : (place : Place) → Keeps place [] place
-keeps_none place so rest = ap (λ (x : List ℕ). line_from x place false rest) (sym (append-nil so))
+keeps_none place so rest = ap (λ (x : List ℕ). line_from x place 0 rest) (sym (append-nil so))
 
 pub keeps_both : (a b : List ℕ) (p q r : Place) → Keeps p a q → Keeps q b r → Keeps p (a ++ b) r
 keeps_both a b p q r h k so rest =
-    ap (line_from so p false) (append_assoc a b rest) ∙ h so (b ++ rest) ∙ k (so ++ a) rest
-    ∙ ap (λ (x : List ℕ). line_from x r false rest) (append_assoc so a b)
+    ap (line_from so p 0) (append_assoc a b rest) ∙ h so (b ++ rest) ∙ k (so ++ a) rest
+    ∙ ap (λ (x : List ℕ). line_from x r 0 rest) (append_assoc so a b)
 
-pub keeps_octet : (p q : Place) (c : ℕ) → on_octet p false c ≡ Kept q → Keeps p (c ∷ []) q
+pub keeps_octet : (p q : Place) (c : ℕ) → on_octet p 0 c ≡ Kept q → Keeps p (c ∷ []) q
 keeps_octet p q c is so rest =
-    ap (λ octet. added_octet octet c (λ o next. line_from (so ++ o ∷ []) next false rest)
+    ap (λ octet. added_octet octet c (λ o next. line_from (so ++ o ∷ []) next 0 rest)
     (λ next within. line_from (so ++ 32 ∷ []) next within rest) (λ ending. (so, ending))) is
 
-pub keeps_then : (c : ℕ) (text : List ℕ) (p q r : Place) → on_octet p false c ≡ Kept q → Keeps q text r → Keeps p (c ∷ text) r
+pub keeps_then : (c : ℕ) (text : List ℕ) (p q r : Place) → on_octet p 0 c ≡ Kept q → Keeps q text r → Keeps p (c ∷ text) r
 keeps_then c text p q r is h = keeps_both (c ∷ []) text p q r (keeps_octet p q c is) h
 
 -- ---- words without quotes
@@ -39,7 +39,7 @@ keeps_then c text p q r is h = keeps_both (c ∷ []) text p q r (keeps_octet p q
 plain_is : (c : ℕ) → is_plain c ≡ true → is_plain_octet c ≡ true
 plain_is c h = grind arith
 
-plain_octet : (c : ℕ) → is_plain c ≡ true → on_octet Words false c ≡ Kept Words
+plain_octet : (c : ℕ) → is_plain c ≡ true → on_octet Words 0 c ≡ Kept Words
 plain_octet c h = rw (plain_is c h) refl
 
 pub keeps_plain : (w : List ℕ) → all_plain w ≡ true → Keeps Words w Words
@@ -98,13 +98,13 @@ special_goes_on o h = grind arith
 digit_goes_on : (n : ℕ) → n < 10 → ends_line (48 + n) ≡ false
 digit_goes_on n h = grind arith
 
-escaped_octet : (o : ℕ) → ends_line o ≡ false → on_octet Escaped false o ≡ Kept Words
+escaped_octet : (o : ℕ) → ends_line o ≡ false → on_octet Escaped 0 o ≡ Kept Words
 escaped_octet o h = rw h refl
 
 printable_plain : (o : ℕ) → is_special o ≡ false → (nat_le 33 o && nat_le o 126) ≡ true → is_plain o ≡ true
 printable_plain o h k = grind arith
 
-digit_plain_octet : (n : ℕ) → n < 10 → on_octet Words false (48 + n) ≡ Kept Words
+digit_plain_octet : (n : ℕ) → n < 10 → on_octet Words 0 (48 + n) ≡ Kept Words
 digit_plain_octet n h = let is : is_plain (48 + n) ≡ true = grind arith in plain_octet (48 + n) is
 
 octet_of_name : (o : ℕ) → o < 256 → Keeps Words (name_octet o) Words

@@ -10,7 +10,7 @@ use Rattle.std.proofs.lemmas.Bool.{and_parts, cases_Bool, cases_lt, leb-true, lt
 use Rattle.std.proofs.lemmas.List.{length-take-le}
 use Rattle.dnw_base.specs.Decoder.{Decoder}
 use Rattle.dnw_base.specs.Names.{label_wire, wire}
-use Rattle.dnw_base.specs.RecordTypes.{type_of_code, type_text}
+use Rattle.dnw_base.specs.RecordTypes.{type_of_code}
 use Rattle.dnw_data.proofs.Codes.{code_back}
 use Rattle.dnw_data.proofs.Taking.{moves_on}
 use Rattle.dnw_data.specs.Fields.{own_at, size_at, TakesField}
@@ -43,13 +43,13 @@ use Rattle.dnw_zone_data.specs.Generic.{generic_text, hex_part}
 use Rattle.dnw_zone_data.specs.NameLists.{names_text}
 use Rattle.dnw_zone_data.specs.Printing.{Prints, PrintsFields, base64_part, strings_text}
 use Rattle.dnw_zone_data.specs.PrefixLists.{first_prefix_size, prefixes_within}
-use Rattle.dnw_zone_data.specs.TypeLists.{code_text, codes_text, codes_within, is_window}
+use Rattle.dnw_zone_data.specs.TypeLists.{code_text, shown_type, codes_text, codes_within, is_window}
 use Rattle.dnw_zone_data.proofs.BitmapsBack.{IsBit, old_type_plain, old_types_are, port_plain, ports_are}
 use Rattle.dnw_zone_data.proofs.CodesWithin.{Within, octets_within}
 use Rattle.dnw_zone_data.proofs.DataBack.{data_fit}
 use Rattle.dnw_zone_data.proofs.FieldValues.{counted_fit, labels_fit}
 use Rattle.dnw_zone_data.proofs.GatewaysBack.{end_type, end_word, wire_labels_fit}
-use Rattle.dnw_zone_data.proofs.FieldsBack.{dotted, first, type_plain}
+use Rattle.dnw_zone_data.proofs.FieldsBack.{dotted, first, shown_plain}
 use Rattle.dnw_zone_data.proofs.LocatorsBack.{locator_plain, nsap_plain}
 use Rattle.dnw_zone_data.proofs.PrefixListsBack.{prefix_plain, spaced_parts}
 use Rattle.dnw_zone_data.proofs.LocationsBack.{AreMarks, location_spaced}
@@ -121,9 +121,9 @@ strings_kept (s ∷ strings) h =
 codes_kept : (least : ℕ) (codes : List ℕ) → Within least codes → Keeps Words (codes_text codes) Words
 codes_kept least [] h = keeps_none Words
 codes_kept least (code ∷ codes) h =
-    let w = type_text (type_of_code code) in
+    let w = shown_type (type_of_code code) in
     keeps_both (32 ∷ w) (codes_text codes) Words Words Words
-    (keeps_spaced w (keeps_plain w (type_plain (type_of_code code) (omega (arith, code_back code, h.1)))))
+    (keeps_spaced w (keeps_plain w (shown_plain (type_of_code code) (omega (arith, code_back code, h.1)))))
     (codes_kept (code + 1) codes h.2)
 
 codes_seam : (a b : List ℕ) → codes_text (a ++ b) ≡ codes_text a ++ codes_text b
@@ -275,7 +275,7 @@ ports_kept own text (is, e) =
 type_numbers_kept : (ns : List ℕ) → AllByRecursion (IsBit OldTypes) ns → Keeps Words (numbers_text OldTypes ns) Words
 type_numbers_kept [] h = keeps_none Words
 type_numbers_kept (n ∷ ns) h =
-    let w = type_text (type_of_code n) in
+    let w = shown_type (type_of_code n) in
     keeps_both (32 ∷ w) (numbers_text OldTypes ns) Words Words Words (keeps_spaced w (keeps_plain w (old_type_plain n h.0.1).0)) (type_numbers_kept ns h.1)
 
 old_types_kept : (own text : List ℕ) → PrintsBits OldTypes own text → Keeps Words text Words
@@ -314,7 +314,7 @@ field_kept kinds.TypeCode d value after text h takes print =
     let n = from_be_bytes w16 (own_at kinds.TypeCode d) in
     let fit = own_fit kinds.TypeCode d h in
     by_value kinds.TypeCode value _ text takes.2 print
-    (λ p. kept_by text _ p (keeps_plain _ (type_plain (type_of_code n) (omega (arith, code_back n, fit 0, fit 1)))))
+    (λ p. kept_by text _ p (keeps_plain _ (shown_plain (type_of_code n) (omega (arith, code_back n, fit 0, fit 1)))))
 field_kept kinds.Time d value after text h takes print =
     by_value kinds.Time value _ text takes.2 print (λ p. let (date, is, e) = p in kept_by text date e (keeps_plain date (digits_plain date is.digits.1)))
 field_kept (kinds.Counted Text) d value after text h takes print =
@@ -357,9 +357,9 @@ field_kept (kinds.Shaped shape) d value after text h takes print =
 field_kept (kinds.Octets Text) d value after text h takes print =
     by_value (kinds.Octets Text) value _ text takes.2 print (λ p. kept_by text _ p (keeps_string _ (own_fit (kinds.Octets Text) d h)))
 field_kept (kinds.Octets Hex) d value after text h takes print =
-    by_value (kinds.Octets Hex) value _ text takes.2 print (λ p. subst (λ (t : List ℕ). Keeps Words t Words) (sym p) (hex_kept _ (own_fit (kinds.Octets Hex) d h)))
+    by_value (kinds.Octets Hex) value _ text takes.2 print (λ p. subst (λ (t : List ℕ). Keeps Words t Words) (sym p.1) (hex_kept _ (own_fit (kinds.Octets Hex) d h)))
 field_kept (kinds.Octets Base64) d value after text h takes print =
-    by_value (kinds.Octets Base64) value _ text takes.2 print (λ p. subst (λ (t : List ℕ). Keeps Words t Words) (sym p) (base64_kept _ (own_fit (kinds.Octets Base64) d h)))
+    by_value (kinds.Octets Base64) value _ text takes.2 print (λ p. subst (λ (t : List ℕ). Keeps Words t Words) (sym p.1) (base64_kept _ (own_fit (kinds.Octets Base64) d h)))
 field_kept (kinds.Octets Tag) d value after text h takes print =
     by_none (kinds.Octets Tag) value (octets (own_at (kinds.Octets Tag) d)) text takes.2 print (λ p. p)
 field_kept (kinds.Octets Base32Hex) d value after text h takes print =

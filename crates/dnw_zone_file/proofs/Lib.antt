@@ -10,7 +10,4 @@ pub mod LinesRead
 pub mod ShortNames
 pub mod ShortLinesRead
 pub mod WrittenTexts
-pub mod Adding
-pub mod Lookups
-pub mod Upward
 pub mod OwnOwners

@@ -33,18 +33,19 @@ use Rattle.dnw_zone_file.specs.declared.entry.LineKind.TheVariants.{Dollar, Owne
 use Rattle.dnw_zone_file.specs.Contexts.{ttl_after, with_origin, with_ttl}
 use Rattle.dnw_zone_file.specs.Directives.{IsDirective}
 use Rattle.dnw_zone_file.specs.Entries.{line_kind, owner_at, IsEntry, IsEntryBy, IsNameWord, IsOnlyName, IsOnlyTtl, IsOwned, IsZoneRecord}
-use Rattle.dnw_zone_file.specs.Heads.{IsZoneHead}
+use Rattle.dnw_zone_file.specs.Heads.{IsZoneHead, LacksZoneTtl, max_zone_ttl}
 use Rattle.dnw_zone_file.specs.ShortLines.{IsShortOwner, short_head, short_rest, short_ttl}
 use Rattle.dnw_zone_file.proofs.AnyLines.{IsLine}
 use Rattle.dnw_zone_file.proofs.Kept.{Keeps, keeps_both, keeps_name, keeps_plain, keeps_spaced}
 use Rattle.dnw_zone_file.proofs.LinesRead.{by_owner, owner_only}
 use Rattle.dnw_zone_file.proofs.ShortNames.{IsOwnerWord, all_octets, full_word, short_word, word_owner}
-use Rattle.dnw_zone_file.proofs.WrittenLines.{IsPrinted, begins_owner, class_plain, kind_of, no_quote, plain_next, spaced_end, zone_head}
+use Rattle.dnw_zone_file.proofs.WrittenLines.{IsPrinted, begins_owner, class_plain, no_quote, starts, plain_next, spaced_end, zone_head}
 use Rattle.dnw_zone_lexer.specs.Times.{time_seconds}
 use Rattle.dnw_zone_data.specs.TypeLists.{IsTypeWord}
-use Rattle.dnw_zone_record.specs.RecordLines.{spaced, after_next_word, next_word, IsClassWord, IsTtlWord, LacksTtlWord}
+use Rattle.dnw_zone_record.specs.RecordLines.{spaced, after_next_word, next_word, IsClassWord, IsTtlWord}
 use Rattle.dnw_zone_record.proofs.LinesBack.{class_other, IsReadRecord}
 use Rattle.dnw_zone_values.specs.Octets.{IsOctets}
+use Rattle.dnw_zone_record.specs.Lines.{is_indented}
 use Rattle.dnw_zone_record.specs.declared.scan.Place.TheVariants.{Words}
 
 -- ---- no name of a class or a type is a time
@@ -87,15 +88,16 @@ classed_head r text fits =
     let name = plain_next (class_text r.class) rest3 shape.0 shape.1 refl in
     let plain = type_plain r.record_type fits.type_few in
     let last = plain_next (type_text r.record_type) rest4 plain (type_some r.record_type) (spaced_end text) in
-    let lacks : LacksTtlWord rest2 = λ n is. no_time (class_text r.class) n (class_letter r.class) (subst (λ (w : List ℕ). IsTtlWord w n) name.0 is) in
-    let also : LacksTtlWord rest3 = λ n is. no_time (type_text r.record_type) n (type_letter r.record_type) (subst (λ (w : List ℕ). IsTtlWord w n) last.0 is) in
+    let lacks : LacksZoneTtl rest2 = λ n is. no_time (class_text r.class) n (class_letter r.class) (subst (λ (w : List ℕ). IsTtlWord w n) name.0 is.0) in
+    let also : LacksZoneTtl rest3 = λ n is. no_time (type_text r.record_type) n (type_letter r.record_type) (subst (λ (w : List ℕ). IsTtlWord w n) last.0 is.0) in
     let is_class : IsClassWord (next_word rest2) r.class =
     subst (λ (w : List ℕ). IsClassWord w r.class) (sym name.0)
     (plain_utf8 (class_text r.class) shape.0, classes_come_back r.class fits.class_few ∙ ap Some fits.same_class, class_other r.class) in
     let is_type : IsTypeWord (next_word rest3) r.record_type =
     subst (λ (w : List ℕ). IsTypeWord w r.record_type) (sym last.0)
     (plain_utf8 (type_text r.record_type) plain, types_come_back r.record_type fits.type_few ∙ ap Some fits.same_type, type_other r.record_type) in
-    (rest3, (None, rest2, rest3, (lacks, refl), (is_class, sym name.1), (also, refl)), is_type, sym last.1)
+    let (class, kind, few_seconds) = fits.zone in
+    (rest3, (None, rest2, rest3, (lacks, refl), ((is_class, class), sym name.1), (also, refl)), (is_type, kind), sym last.1)
 
 -- the time to live is written, or it is the one that is known
 short_cases : (known : Option ℕ) (ttl : ℕ) → (short_ttl known ttl ≡ Some ttl) ⊎ ((short_ttl known ttl ≡ None) × (known ≡ Some ttl))
@@ -109,11 +111,11 @@ short_cases (Some known) ttl = elim (cases_Bool (known == ttl)) [
 record IsRest (r : RecordValue) (text : List ℕ) (own : Option ℕ) : Type 0 where
   head_is : IsZoneHead (short_rest own r text) (record { ttl = own; class = Some r.class; record_type = r.record_type }) (spaced text)
   kept : Keeps Words (spaced text) Words → Keeps Words (short_rest own r text) Words
-  blank : line_kind (short_rest own r text) ≡ OwnerBefore
+  blank : line_kind (is_indented (short_rest own r text)) (after_spaces (short_rest own r text)) ≡ OwnerBefore
   ends : is_end (short_rest own r text) ≡ true
 
 -- an entry that begins with a space and a plain word
-blank_kind : (w rest : List ℕ) → all_plain w ≡ true → 0 < length w → line_kind (32 ∷ (w ++ rest)) ≡ OwnerBefore
+blank_kind : (w rest : List ℕ) → all_plain w ≡ true → 0 < length w → line_kind true (after_spaces (32 ∷ (w ++ rest))) ≡ OwnerBefore
 blank_kind w rest plain some =
     rw (plain_starts w rest plain some, ne_eqb (length (w ++ rest)) 0 (omega (arith, length-append w rest, some))) refl
 
@@ -168,7 +170,7 @@ blank_line before r text fits same =
     let line = short_rest (short_ttl before.default_ttl r.ttl) r text in
     record {
       kept = λ kept. rest.kept kept;
-      is = λ entry after record_is. (OwnerBefore, word line, after_word line, sym rest.blank, refl, refl, (Some r.owner, sym same, record_is));
+      is = λ entry after record_is. (OwnerBefore, next_word line, after_next_word line, sym rest.blank, refl, refl, (Some r.owner, sym same, record_is));
       only = λ entry after entry_is. owner_before before r.owner line entry after rest.blank same entry_is;
       head_is = rest.head_is;
       ttl = ttl_is before r.ttl;
@@ -176,8 +178,8 @@ blank_line before r text fits same =
       kind = refl;
     }
   where
-    owner_before : (before : Context) (owner : List (List ℕ)) (line : List ℕ) (entry : Entry) (after : Context) → line_kind line ≡ OwnerBefore → before.owner ≡ Some owner
-        → IsEntry before line entry after → IsZoneRecord before owner line entry after
+    owner_before : (before : Context) (owner : List (List ℕ)) (line : List ℕ) (entry : Entry) (after : Context)
+        → line_kind (is_indented line) (after_spaces line) ≡ OwnerBefore → before.owner ≡ Some owner → IsEntry before (is_indented line) line entry after → IsZoneRecord before owner line entry after
     owner_before before owner line entry after blank same (kind, first, rest, k, f, l, by) =
         let kinds : kind ≡ OwnerBefore = k ∙ blank in
         let (found, o, owned_by) = subst (λ (x : LineKind). IsEntryBy x before line first rest entry after) kinds by in
@@ -194,12 +196,12 @@ named_line before r owner text fits is =
     let size = is.size left rest.ends in
     let first : word line ≡ owner = take_at owner left _ (sym size) in
     let after : after_word line ≡ left = drop_at owner left _ (sym size) in
-    let kind = kind_of line (is.begins left) in
+    let begins = is.begins left in
     let named : owner_at before.origin (word line) ≡ Some r.owner = ap (owner_at before.origin) first ∙ word_owner before.origin r.owner owner is in
     record {
       kept = λ kept. keeps_both owner left Words Words Words is.kept (rest.kept kept);
-      is = λ entry context record_is. by_owner before r.owner line left entry context kind named after record_is;
-      only = λ entry context entry_is. owner_only before r.owner line left entry context kind named after entry_is;
+      is = λ entry context record_is. by_owner before r.owner line left entry context begins named after record_is;
+      only = λ entry context entry_is. owner_only before r.owner line left entry context begins named after entry_is;
       head_is = rest.head_is;
       ttl = ttl_is before r.ttl;
       class = refl;
@@ -215,16 +217,12 @@ short_is before r owner text is fits (inr (other, name)) = named_line before r o
 
 -- ---- directives
 
-starts : (w : List ℕ) → begins_owner w ≡ true → after_spaces w ≡ w
-starts [] h = refl
-starts (c ∷ cs) h = let space : is_space c ≡ false = grind arith in rw space refl
-
 -- an entry whose first word is a directive
-dollar_kind : (cs : List ℕ) → line_kind (36 ∷ cs) ≡ Dollar
+dollar_kind : (cs : List ℕ) → line_kind false (36 ∷ cs) ≡ Dollar
 dollar_kind cs = rw (ne_eqb (suc (length cs)) 0 (omega arith)) refl
 
 pub origin_entry : (before : Context) (labels : List (List ℕ)) → AreLabels labels → AllByRecursion IsOctets labels
-    → IsEntry before (codes "$ORIGIN " ++ full_name_text labels) Nothing (with_origin before (record { is_fqdn = true; labels = labels }))
+    → IsEntry before false (codes "$ORIGIN " ++ full_name_text labels) Nothing (with_origin before (record { is_fqdn = true; labels = labels }))
 origin_entry before labels are h =
     let name = full_name_text labels in
     let line = codes "$ORIGIN " ++ name in
@@ -248,7 +246,7 @@ origin_entry before labels are h =
     let directive : IsDirective (word line) directives.Origin = subst (λ (w : List ℕ). IsDirective w directives.Origin) (sym first) refl in
     (Dollar, word line, after_word line, sym (dollar_kind (codes "ORIGIN " ++ name)), refl, refl, inl (directive, refl, record { is_fqdn = true; labels = labels }, moved, refl))
 
-pub ttl_entry : (before : Context) (ttl : ℕ) → ttl ≤ 4294967295 → IsEntry before (codes "$TTL " ++ decimal ttl) Nothing (with_ttl before ttl)
+pub ttl_entry : (before : Context) (ttl : ℕ) → ttl ≤ max_zone_ttl → IsEntry before false (codes "$TTL " ++ decimal ttl) Nothing (with_ttl before ttl)
 ttl_entry before ttl few =
     let digits = decimal ttl in
     let line = codes "$TTL " ++ digits in
@@ -260,7 +258,7 @@ ttl_entry before ttl few =
     let whole : codes "$TTL" ++ left ≡ line = ap (λ (xs : List ℕ). codes "$TTL " ++ xs) same in
     let first : word line ≡ codes "$TTL" = ap word (sym whole) ∙ plain_word (codes "$TTL") left refl refl in
     let after : after_word line ≡ left = ap after_word (sym whole) ∙ plain_after (codes "$TTL") left refl refl in
-    let only : IsOnlyTtl left ttl = (subst (λ (w : List ℕ). IsTtlWord w ttl) (sym next.0) (period ttl few), ap after_spaces next.1) in
+    let only : IsOnlyTtl left ttl = ((subst (λ (w : List ℕ). IsTtlWord w ttl) (sym next.0) (period ttl (omega (arith, few))), few), ap after_spaces next.1) in
     let moved = subst (λ (xs : List ℕ). IsOnlyTtl xs ttl) (sym after) only in
     let directive : IsDirective (word line) directives.Ttl = subst (λ (w : List ℕ). IsDirective w directives.Ttl) (sym first) refl in
     (Dollar, word line, after_word line, sym (dollar_kind (codes "TTL " ++ digits)), refl, refl, inr (inl (directive, refl, ttl, moved, refl)))
@@ -269,7 +267,7 @@ pub origin_kept : (labels : List (List ℕ)) → AllByRecursion IsOctets labels 
 origin_kept labels h =
     keeps_both (codes "$ORIGIN") (32 ∷ full_name_text labels) Words Words Words (keeps_plain (codes "$ORIGIN") refl) (keeps_spaced (full_name_text labels) (keeps_name labels h))
 
-pub ttl_kept : (ttl : ℕ) → ttl ≤ 4294967295 → Keeps Words (codes "$TTL " ++ decimal ttl) Words
+pub ttl_kept : (ttl : ℕ) → ttl ≤ max_zone_ttl → Keeps Words (codes "$TTL " ++ decimal ttl) Words
 ttl_kept ttl few =
     keeps_both (codes "$TTL") (32 ∷ decimal ttl) Words Words Words (keeps_plain (codes "$TTL") refl)
     (keeps_spaced (decimal ttl) (keeps_plain (decimal ttl) (decimal_plain ttl (omega (arith, few)))))

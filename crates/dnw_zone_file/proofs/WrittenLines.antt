@@ -18,7 +18,7 @@ use Rattle.dnw_name_text.specs.NameTexts.{is_special, name_octet, label_octets, 
 use Rattle.dnw_base.specs.Names.{NameValue}
 use Rattle.dnw_record.specs.Records.{RecordAt, RecordValue, fixed_at, number_at, record_of}
 use Rattle.dnw_zone_data.specs.NameReading.{named_at}
-use Rattle.dnw_zone_data.specs.Words.{is_end, is_space, word, after_word}
+use Rattle.dnw_zone_data.specs.Words.{after_spaces, is_end, is_space, word, after_word}
 use Rattle.dnw_zone_data.proofs.FieldsBack.{type_other, type_plain, type_some}
 use Rattle.dnw_zone_data.proofs.NamesBack.{name_len}
 use Rattle.dnw_zone_values.proofs.ParamTextsBack.{drop_fit, take_fit}
@@ -31,8 +31,9 @@ use Rattle.dnw_zone_record.proofs.LinesBack.{class_other, IsReadRecord, line_res
 use Rattle.dnw_zone_data.specs.TypeLists.{IsTypeWord}
 use Rattle.dnw_zone_record.specs.RecordLines.{record_line, spaced, next_word, after_next_word, IsTtlWord, IsClassWord}
 use Rattle.dnw_zone_values.specs.Octets.{IsOctets}
+use Rattle.dnw_zone_record.specs.Lines.{is_indented}
 use Rattle.dnw_zone_record.specs.declared.scan.Place.TheVariants.{Words}
-use Rattle.dnw_zone_file.specs.Written.{written_head}
+use Rattle.dnw_zone_file.specs.Written.{IsOfZone, written_head}
 use Rattle.dnw_zone_file.proofs.Kept.{Keeps, keeps_both, keeps_name, keeps_plain, keeps_spaced}
 
 -- ---- words
@@ -67,9 +68,10 @@ pub record IsPrinted (r : RecordValue) : Type 0 where
   pub ttl_few : r.ttl ≤ 4294967295
   pub same_type : type_of_code (type_code r.record_type) ≡ r.record_type
   pub same_class : class_of_code (class_code r.class) ≡ r.class
+  pub zone : IsOfZone r
 
-printed_of : (b : List ℕ) (labels : List (List ℕ)) (end : ℕ) → AreBytes b → IsPrinted (record_of b labels end)
-printed_of b labels end h =
+printed_of : (b : List ℕ) (labels : List (List ℕ)) (end : ℕ) → AreBytes b → IsOfZone (record_of b labels end) → IsPrinted (record_of b labels end)
+printed_of b labels end h zone =
     let f = fixed_at b end in
     let fit = slice_fit b end (end + 10) h in
     let t = slice_fit f 0 2 fit in
@@ -81,10 +83,11 @@ printed_of b labels end h =
       ttl_few = omega (arith, n 0, n 1, n 2, n 3);
       same_type = ap type_of_code (code_back (number_at f 0));
       same_class = ap class_of_code (class_back (number_at f 2));
+      zone = zone;
     }
 
-pub printed : (b : List ℕ) (p e : ℕ) (r : RecordValue) → AreBytes b → RecordAt b p r e → IsPrinted r
-printed b p e r h at = subst IsPrinted (sym at.is) (printed_of b at.labels at.owner_end h)
+pub printed : (b : List ℕ) (p e : ℕ) (r : RecordValue) → AreBytes b → RecordAt b p r e → IsOfZone r → IsPrinted r
+printed b p e r h at zone = subst IsPrinted (sym at.is) (printed_of b at.labels at.owner_end h (subst (λ (x : RecordValue). IsOfZone x) at.is zone))
 
 pub read : (b : List ℕ) (p e : ℕ) (r : RecordValue) → AreBytes b → RecordAt b p r e → IsReadRecord r
 read b p e r h at = subst IsReadRecord (sym at.is) (record_read b at.labels p at.owner_end at.pointers h at.owner_read)
@@ -111,7 +114,8 @@ zone_head r text fits =
     let is_type : IsTypeWord (next_word rest3) r.record_type =
     subst (λ (w : List ℕ). IsTypeWord w r.record_type) (sym last.0)
     (plain_utf8 (type_text r.record_type) plain, types_come_back r.record_type fits.type_few ∙ ap Some fits.same_type, type_other r.record_type) in
-    (rest3, (Some r.ttl, rest2, rest3, (is_ttl, sym ttl.1), (is_class, sym name.1), (refl, refl)), is_type, sym last.1)
+    let (class, kind, few_seconds) = fits.zone in
+    (rest3, (Some r.ttl, rest2, rest3, ((is_ttl, few_seconds), sym ttl.1), ((is_class, class), sym name.1), (refl, refl)), (is_type, kind), sym last.1)
 
 -- ---- the owner
 
@@ -136,7 +140,11 @@ owner_begins ((o ∷ label) ∷ labels) rest are =
     let seam : full_name_text ((o ∷ label) ∷ labels) ++ rest ≡ name_octet o ++ (label_octets label ++ (46 ∷ (labels_text labels ++ rest))) = simp append_assoc in
     ap begins_owner seam ∙ octet_begins o _
 
-pub kind_of : (line : List ℕ) → begins_owner line ≡ true → line_kind line ≡ OwnerFirst
+pub starts : (line : List ℕ) → begins_owner line ≡ true → after_spaces line ≡ line
+starts [] h = refl
+starts (c ∷ cs) h = let space : is_space c ≡ false = grind arith in rw space refl
+
+pub kind_of : (line : List ℕ) → begins_owner line ≡ true → line_kind (is_indented line) (after_spaces line) ≡ OwnerFirst
 kind_of [] h = absurd cc
 kind_of (c ∷ cs) h =
     let space : is_space c ≡ false = grind arith in
@@ -156,8 +164,8 @@ pub whole_line : (r : RecordValue) (text : List ℕ) → record_line r text ≡ 
 whole_line r text = simp append_assoc
 
 -- the line of a record is that of an entry with its owner first
-pub owner_first : (r : RecordValue) (text : List ℕ) → IsReadRecord r → line_kind (record_line r text) ≡ OwnerFirst
-owner_first r text is = kind_of (record_line r text) (ap begins_owner (whole_line r text) ∙ owner_begins r.owner (line_rest r text) is.labels.each)
+pub owner_first : (r : RecordValue) (text : List ℕ) → IsReadRecord r → begins_owner (record_line r text) ≡ true
+owner_first r text is = ap begins_owner (whole_line r text) ∙ owner_begins r.owner (line_rest r text) is.labels.each
 
 pub owner_is : (origin : NameValue) (r : RecordValue) (text : List ℕ) → IsReadRecord r → owner_at origin (word (record_line r text)) ≡ Some r.owner
 owner_is origin r text is =

@@ -38,20 +38,26 @@ short_step before r owner text line own rest more found whole is has same =
 
 pub short_lines : ShortLinesAreEntries
 short_lines before b p e r line rest more h at (owner, text, owner_is, print, whole) =
-    let is = short_is before r owner text (read b p e r h at) (printed b p e r h at) owner_is in
-    let (own, plain, has) = has_data before b p e r text h at print in
-    (own, plain, λ fine found same. short_step before r owner text line own rest more found whole is (has fine) same)
+    let (own, plain, has) = has_data before b p e r text h at print in (
+      own,
+      plain,
+      λ fine found same.
+          let (_, _, zone) = fine in
+          let is = short_is before r owner text (read b p e r h at) (printed b p e r h at zone) owner_is in
+          short_step before r owner text line own rest more found whole is (has fine) same,
+    )
 
 pub short_lines_back : ShortLinesAreReadBack
 short_lines_back before after b p e r line rest more entry used h at (owner, text, owner_is, print, whole) step octets =
     let left = short_rest (short_ttl before.default_ttl r.ttl) r text in
-    let is = short_is before r owner text (read b p e r h at) (printed b p e r h at) owner_is in
     let (own, plain, has) = has_data before b p e r text h at print in
     let seam : line ≡ (owner ++ left) ++ 10 ∷ [] = whole in
     let moved = subst (λ (t : List ℕ). IsStep before (t ++ rest) more (record { used = used; found = Ok (IsOne entry) }) after) seam step in (
       own,
       plain,
       λ fine.
+          let (_, _, zone) = fine in
+          let is = short_is before r owner text (read b p e r h at) (printed b p e r h at zone) owner_is in
           let (same, size, context) = line_read_back before after r (owner ++ left) left text own rest (short_head before r) more entry used is (has fine) moved octets in
           (same, size ∙ ap length (sym seam), context),
     )
@@ -91,12 +97,13 @@ added first before after old line records more entry (n, so_far) step of_text e 
 
 pub records_added : ZoneRecordsAreAdded
 records_added first before after old new b p e r records so_far h at (line, (owner, text, owner_is, print, whole), new_is, after_is) =
-    let is = short_is before r owner text (read b p e r h at) (printed b p e r h at) owner_is in
     let (own, plain, has) = has_data before b p e r text h at print in
     let context = with_record before r.owner (short_head before r) in (
       own,
       plain,
       λ fine found same.
+          let (_, _, zone) = fine in
+          let is = short_is before r owner text (read b p e r h at) (printed b p e r h at zone) owner_is in
           let more : List OwnedRecord = records ++ record { owner = r.owner; body = found } ∷ [] in
           subst (λ (c : Context). IsWrittenZone first new more c) (sym after_is)
           (subst (λ (t : List ℕ). IsWrittenZone first t more context) (sym new_is)

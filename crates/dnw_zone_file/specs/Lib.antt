@@ -8,7 +8,4 @@ pub mod ZoneTexts
 pub mod Written
 pub mod ShortLines
 pub mod WriterLaws
-pub mod Findings
-pub mod HostNames
-pub mod Checks
 pub mod Inside

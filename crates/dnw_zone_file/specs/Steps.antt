@@ -1,7 +1,7 @@
 -- What the text of a zone file begins with, after the entries before it: an entry, which goes up to the end of its line, or why it is
 -- none, or nothing. Of a text that may go on, an entry that is not whole is none yet.
 use Rattle.std.specs.Prelude.{◌≡◌, ◌≢◌, ◌<◌, ◌⊎◌, ◌+◌, ◌==◌, ⊤, Bool, true, false, ℕ, List, [], ◌∷◌, drop, length, if◌then◌else◌, Option, Some, None, Ok, Err, IfOk}
-use Rattle.dnw_zone_record.specs.Lines.{line_of}
+use Rattle.dnw_zone_record.specs.Lines.{fault_offset, is_indented, line_of}
 use Rattle.dnw_zone_record.specs.declared.word_error.WordRule.{WordRule}
 use Rattle.dnw_zone_record.specs.declared.scan.Ending.{Ending}
 use Rattle.dnw_zone_record.specs.declared.scan.Ending.TheVariants.{Line, Text, Cut, Wrong as WrongWords}
@@ -32,15 +32,15 @@ abbrev pub words_step : ℕ → WordRule → ℕ → Step
 words_step offset rule used = record { used = used; found = Err (Wrong offset (Words rule)) }
 
 -- The entry with this line takes so many octets, or it is none.
-abbrev pub IsEntryFound : Context → List ℕ → ℕ → Step → Context → Type 0
-IsEntryFound before line used step after =
-    ((entry : Entry) × IsEntry before line entry after × (step ≡ record { used = used; found = Ok (IsOne entry) }))
-    ⊎ ((error : ZoneError) × FailsEntry before line error × (step ≡ record { used = used; found = Err error }) × (after ≡ before))
+abbrev pub IsEntryFound : Context → Bool → List ℕ → ℕ → Step → Context → Type 0
+IsEntryFound before indented line used step after =
+    ((entry : Entry) × IsEntry before indented line entry after × (step ≡ record { used = used; found = Ok (IsOne entry) }))
+    ⊎ ((error : ZoneError) × FailsEntry before indented line error × (step ≡ record { used = used; found = Err error }) × (after ≡ before))
 
--- After an error of words, a text of which this is left goes on after the next line feed, if there is one.
+-- After an error of words, a text whose line ends at an offset goes on after the next line feed, if there is one.
 abbrev pub wrong_step : Bool → List ℕ → ℕ → WordRule → Option ℕ → Step
-wrong_step more text offset rule (Some len) = words_step offset rule (offset + len)
-wrong_step more text offset rule None = if more then more_step else words_step offset rule (length text)
+wrong_step more text end rule (Some len) = words_step (fault_offset text end rule) rule (end + len)
+wrong_step more text end rule None = if more then more_step else words_step (fault_offset text end rule) rule (length text)
 
 -- An entry takes octets.
 abbrev pub MovesBy : Found → ℕ → Type 0
@@ -52,11 +52,11 @@ Moves step = IfOk step.found (λ found. MovesBy found step.used)
 
 -- what a text is of which this is the line, by how it ends
 abbrev pub IsStepAt : Context → List ℕ → Bool → List ℕ → Ending → Step → Context → Type 0
-IsStepAt before text more line Line step after = IsEntryFound before line (length line + 1) step after
-IsStepAt before text false line Text step after = IsEntryFound before line (length line) step after
+IsStepAt before text more line Line step after = IsEntryFound before (is_indented text) line (length line + 1) step after
+IsStepAt before text false line Text step after = IsEntryFound before (is_indented text) line (length line) step after
 IsStepAt before text true line Text step after = (step ≡ more_step) × (after ≡ before)
 IsStepAt before text more line (Cut rule) step after =
-    (step ≡ (if more then more_step else words_step (length line) rule (length line))) × (after ≡ before)
+    (step ≡ (if more then more_step else words_step (fault_offset text (length line) rule) rule (length line))) × (after ≡ before)
 IsStepAt before text more line (WrongWords rule) step after =
     (step ≡ wrong_step more text (length line) rule (after_feed (drop (length line) text))) × (after ≡ before)
 

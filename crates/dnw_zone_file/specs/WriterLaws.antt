@@ -14,10 +14,10 @@ use Rattle.dnw_zone_file.specs.declared.step.Found.TheVariants.{Entry as IsOne}
 use Rattle.dnw_zone_file.specs.declared.entry.Entry.TheVariants.{Nothing}
 use Rattle.dnw_zone_file.specs.declared.zone_text.OwnedRecord.{OwnedRecord}
 use Rattle.dnw_zone_file.specs.Contexts.{IsFirst, with_origin, with_record, with_ttl}
+use Rattle.dnw_zone_file.specs.Heads.{max_zone_ttl}
 use Rattle.dnw_zone_file.specs.ShortLines.{AppendsOrigin, AppendsShort, AppendsTtl, IsShortText, origin_line, short_head, short_ttl, ttl_line}
 use Rattle.dnw_zone_file.specs.Steps.{IsStep}
 use Rattle.dnw_zone_file.specs.ZoneTexts.{BeginsWithRecords, IsZoneText}
-use Rattle.dnw_zone_values.specs.Numbers.{max_u32}
 use Rattle.dnw_zone_values.specs.Octets.{IsOctets}
 use Rattle.dnw_zone_file.specs.Written.{AreOfType, IsSameRecord, written_line, written_head}
 
@@ -70,7 +70,7 @@ OriginsAreEntries = (before : Context) (labels : List (List ℕ)) (rest : List �
     → IsStep before (origin_line labels ++ rest) more (record { used = length (origin_line labels); found = Ok (IsOne Nothing) }) (with_origin before (record { is_fqdn = true; labels = labels }))
 
 abbrev pub TtlsAreEntries : Type 0
-TtlsAreEntries = (before : Context) (ttl : ℕ) (rest : List ℕ) (more : Bool) → ttl ≤ max_u32
+TtlsAreEntries = (before : Context) (ttl : ℕ) (rest : List ℕ) (more : Bool) → ttl ≤ max_zone_ttl
     → IsStep before (ttl_line ttl ++ rest) more (record { used = length (ttl_line ttl); found = Ok (IsOne Nothing) }) (with_ttl before ttl)
 
 -- ---- whole texts
@@ -93,7 +93,7 @@ OriginsAreAdded = (first before after : Context) (old new : List ℕ) (origin : 
 
 abbrev pub TtlsAreAdded : Type 0
 TtlsAreAdded = (first before after : Context) (old new : List ℕ) (ttl : ℕ) (records : List OwnedRecord) → IsWrittenZone first old records before
-    → ttl ≤ max_u32 → AppendsTtl before ttl old new after → IsWrittenZone first new records after
+    → ttl ≤ max_zone_ttl → AppendsTtl before ttl old new after → IsWrittenZone first new records after
 
 -- No text is no records. A text that is written from the beginning is a zone file of its records.
 abbrev pub NothingIsWritten : Type 0

@@ -12,10 +12,12 @@ pub struct Context {
     pub origin: Name,
     /// The owner of the last record.
     pub owner: Option<WireForm>,
-    /// The time to live of the last `$TTL`.
+    /// The time to live of the last `$TTL`, or the minimum of an SOA record before which no time to live was stated.
     pub default_ttl: Option<u32>,
     /// The last time to live of a record that has one of its own.
     pub last_ttl: Option<u32>,
+    /// The time to live of records for which the file states none, if the caller gives one.
+    pub fallback_ttl: Option<u32>,
     /// The last class of a record that has one of its own, or else `IN`.
     pub class: DNSClass,
 }
@@ -31,6 +33,7 @@ impl Context {
             owner: None,
             default_ttl: None,
             last_ttl: None,
+            fallback_ttl: None,
             class: DNSClass::IN,
         }
     }

@@ -7,14 +7,14 @@ ghost use Rattle.dnw_zone_file.specs.Inside.OwnOwners.{IsNamed};
 ghost use Rattle.dnw_zone_data.specs.Words.{after_spaces};
 ghost use Rattle.dnw_zone_file.specs.declared.error.ZoneRule.TheVariants.{BadOwner, NoOwner, NoTimeToLive};
 ghost use Rattle.dnw_zone_file.specs.Heads.{IsZoneHead, wrong_at};
-ghost use Rattle.dnw_zone_file.specs.Contexts.{class_after, ttl_after, with_record};
+ghost use Rattle.dnw_zone_file.specs.Contexts.{class_after, last_number, minimum_after, record_ttl, soa_minimum, ttl_after, ttl_at_end, with_minimum, with_record};
 ghost use Rattle.dnw_zone_file.specs.Entries.{FailsData, FailsDirectiveEntry, FailsEntry, FailsEntryBy, FailsInclude, FailsOnlyName, FailsOwned, FailsZoneRecord, FailsTtl, IsDirectiveEntry, IsEntry, IsEntryBy, IsInclude, IsIncludeOrigin, IsNameWord, IsOnlyName, IsOnlyTtl, IsOwned, IsRecordData, IsZoneRecord, begins_with, line_kind, owner_at};
 ghost use Rattle.dnw_zone_record.specs.RecordLines.{IsDataOf};
 
 use crate::context::Context;
 use crate::directive::{Directive, directive_of};
 use crate::error::{ZoneError, ZoneRule};
-use crate::head::{Head, head_of, wrong_at};
+use crate::head::{Head, MAX_ZONE_TTL, head_of, time_fault, wrong_at, zone_ttl_of};
 use dnw_base::dns_class::DNSClass;
 use dnw_base::limits::MAX_NAME;
 use dnw_base::record_type::RecordType;
@@ -23,7 +23,7 @@ use dnw_name_form::form::WireForm;
 use dnw_name_form::wire_labels::WireLabels;
 use dnw_zone_data::name::{fill_other, put_plain};
 use dnw_zone_data::words::{after_spaces, split_word};
-use dnw_zone_record::record_line::{data_of, next_word, ttl_of};
+use dnw_zone_record::record_line::{data_of, next_word};
 use std::alloc::Global;
 
 /// A record of a zone file. Its owner is the context's, after the entry.
@@ -74,26 +74,32 @@ pub enum LineKind {
     OwnerFirst,
 }
 
-/// Returns what an entry is, of which this is the line that `dnw_zone_record` scans, after the entries that made the context. What it
-/// says for later ones goes into the context, which is unchanged if it fails.
-pub fn entry_of(alloc: Global, context: &mut Context, line: &[u8]) -> Result<Entry, ZoneError>
-    ensures ok { IfOk result (λ entry. IsEntry context.old line.now entry context.new) }
-    ensures err { IfErr result (λ e. FailsEntry context.old line.now e × (context.new ≡ context.old)) }
+/// Returns what an entry is, of which this is the line that `dnw_zone_record` scans, after the entries that made the context. It is
+/// indented if its text begins with white space. What it says for later ones goes into the context, which is unchanged if it fails.
+pub fn entry_of(
+    alloc: Global,
+    context: &mut Context,
+    indented: bool,
+    line: &[u8],
+) -> Result<Entry, ZoneError>
+    ensures ok { IfOk result (λ entry. IsEntry context.old indented line.now entry context.new) }
+    ensures err { IfErr result (λ e. FailsEntry context.old indented line.now e × (context.new ≡ context.old)) }
 {
-    let kind = line_kind(line);
-    let (word, rest) = split_word(line);
+    let start = after_spaces(line);
+    let kind = line_kind(indented, start);
+    let (word, rest) = split_word(start);
     entry_by(alloc, context, kind, line, word, rest)
 }
 
-/// Returns how the entry with this line begins.
-fn line_kind(line: &[u8]) -> LineKind
-    ensures { result ≡ line_kind line.now }
+/// Returns how an entry begins, of which this is the first word and what is after it.
+fn line_kind(indented: bool, start: &[u8]) -> LineKind
+    ensures { result ≡ line_kind indented start.now }
 {
-    if after_spaces(line).is_empty() {
+    if start.is_empty() {
         LineKind::Blank
-    } else if begins_with(line, b' ') || begins_with(line, b'\t') {
+    } else if indented {
         LineKind::OwnerBefore
-    } else if begins_with(line, b'$') {
+    } else if begins_with(start, b'$') {
         LineKind::Dollar
     } else {
         LineKind::OwnerFirst
@@ -116,7 +122,7 @@ fn entry_by(
     match kind {
         LineKind::Blank => Ok(Entry::Nothing),
         LineKind::OwnerBefore => owned_before(alloc, context, line),
-        LineKind::Dollar => directive_entry(alloc, context, word, line.len(), rest),
+        LineKind::Dollar => directive_entry(alloc, context, word, line, rest),
         LineKind::OwnerFirst => owned_first(alloc, context, line, word, rest),
     }
 }
@@ -230,6 +236,7 @@ fn record_of(
 {
     match record_data(alloc, context, len, left) {
         Ok((head, found)) => {
+            note_minimum(context, head, &found);
             note(alloc, context, owner, head);
             Ok(Entry::Record(found))
         }
@@ -250,11 +257,20 @@ fn record_of_last(
 {
     match record_data(alloc, context, len, left) {
         Ok((head, found)) => {
+            note_minimum(context, head, &found);
             note_head(context, head);
             Ok(Entry::Record(found))
         }
         Err(error) => Err(error),
     }
+}
+
+/// Keeps the minimum of a record that stands for its time to live.
+fn note_minimum(context: &mut Context, head: Head, found: &ZoneRecord)
+    ensures { context.new ≡ with_minimum context.old (minimum_after context.old head found.now.wire.items) }
+{
+    let minimum = minimum_after(context, head, found.wire.as_slice());
+    context.default_ttl = minimum.or(context.default_ttl);
 }
 
 /// Keeps what a record says for later ones.
@@ -320,13 +336,12 @@ fn data_after(
     ensures ok { IfOk result (λ r. IsRecordData context.now left.now r.0 r.1) }
     ensures err { IfErr result (FailsZoneRecord context.now len left.now) }
 {
-    let ttl = match ttl_of_head(context, head.ttl, len, left) {
-        Ok(ttl) => ttl,
-        Err(error) => return Err(error),
-    };
     let class = class_after(context, head.class);
     let record_type = head.record_type;
     let wire = wire_of(alloc, class, record_type, len, text, &context.origin)?;
+    let Some(ttl) = record_ttl(context, head, wire.as_slice()) else {
+        return Err(wrong_at(len, left, ZoneRule::NoTimeToLive));
+    };
     let found = ZoneRecord {
         record_type,
         class,
@@ -336,24 +351,55 @@ fn data_after(
     Ok((head, found))
 }
 
-/// Returns the time to live of a record, of which the text has what is after the owner.
-fn ttl_of_head(
-    context: &Context,
-    own: Option<u32>,
-    len: usize,
-    left: &[u8],
-) -> Result<u32, ZoneError>
-    requires { length left.now ≤ len }
-    ensures ok { IfOk result (λ ttl. ttl_after context.now own ≡ Some ttl) }
-    ensures err { IfErr result (λ e. (ttl_after context.now own ≡ None) × (e ≡ wrong_at len left.now NoTimeToLive)) }
+/// Returns the time to live of a record with these data.
+fn record_ttl(context: &Context, head: Head, wire: &[u8]) -> Option<u32>
+    ensures { result ≡ record_ttl context.now head wire.now }
 {
-    match ttl_after(context, own) {
-        Some(ttl) => Ok(ttl),
-        None => Err(wrong_at(len, left, ZoneRule::NoTimeToLive)),
+    let minimum = minimum_after(context, head, wire);
+    ttl_after(context, head.ttl).or(minimum.or(context.fallback_ttl))
+}
+
+/// Returns the minimum of a record with these data that stands for its time to live.
+fn minimum_after(context: &Context, head: Head, wire: &[u8]) -> Option<u32>
+    ensures { result ≡ minimum_after context.now head wire.now }
+{
+    match ttl_after(context, head.ttl) {
+        Some(_) => None,
+        None => soa_minimum(head.record_type, wire),
     }
 }
 
-/// Returns the time to live of a record.
+/// Returns the minimum of an SOA record with these data. Other records have none.
+fn soa_minimum(record_type: RecordType, wire: &[u8]) -> Option<u32>
+    ensures { result ≡ soa_minimum record_type wire.now }
+{
+    match record_type {
+        RecordType::SOA => ttl_at_end(wire),
+        _ => None,
+    }
+}
+
+/// Returns the last four octets as a time to live.
+fn ttl_at_end(octets: &[u8]) -> Option<u32>
+    ensures { result ≡ ttl_at_end octets.now }
+{
+    if octets.len() < 4 {
+        return None;
+    }
+    let ttl = last_number(octets);
+    if ttl <= MAX_ZONE_TTL { Some(ttl) } else { None }
+}
+
+/// Returns the number that is the last four octets.
+fn last_number(octets: &[u8]) -> u32
+    requires { 4 ≤ length octets.now }
+    ensures { result ≡ last_number octets.now }
+{
+    let last = &octets[octets.len() - 4..];
+    u32::from_be_bytes([last[0], last[1], last[2], last[3]])
+}
+
+/// Returns what is stated of the time to live of a record.
 fn ttl_after(context: &Context, own: Option<u32>) -> Option<u32>
     ensures { result ≡ ttl_after context.now own }
 {
@@ -389,18 +435,19 @@ fn wire_of(
     }
 }
 
-/// Returns what an entry is that begins with this word, which begins with `$`.
+/// Returns what an entry is whose line begins with this word, which begins with `$`.
 fn directive_entry(
     alloc: Global,
     context: &mut Context,
     word: &[u8],
-    len: usize,
+    line: &[u8],
     rest: &[u8],
 ) -> Result<Entry, ZoneError>
-    requires { length rest.now ≤ len }
-    ensures ok { IfOk result (λ entry. IsDirectiveEntry context.old word.now len rest.now entry context.new) }
-    ensures err { IfErr result (λ e. FailsDirectiveEntry context.old word.now len rest.now e × (context.new ≡ context.old)) }
+    requires { length rest.now ≤ length line.now }
+    ensures ok { IfOk result (λ entry. IsDirectiveEntry context.old word.now line.now rest.now entry context.new) }
+    ensures err { IfErr result (λ e. FailsDirectiveEntry context.old word.now line.now rest.now e × (context.new ≡ context.old)) }
 {
+    let len = line.len();
     match directive_of(word) {
         Some(Directive::Origin) => {
             let origin = only_name(alloc, &context.origin, len, rest)?;
@@ -416,14 +463,8 @@ fn directive_entry(
             let include = include_of(alloc, &context.origin, len, rest)?;
             Ok(Entry::Include(include))
         }
-        Some(Directive::Generate) => Err(ZoneError::Wrong {
-            offset: 0,
-            rule: ZoneRule::Generate,
-        }),
-        None => Err(ZoneError::Wrong {
-            offset: 0,
-            rule: ZoneRule::UnknownDirective,
-        }),
+        Some(Directive::Generate) => Err(wrong_at(len, line, ZoneRule::Generate)),
+        None => Err(wrong_at(len, line, ZoneRule::UnknownDirective)),
     }
 }
 
@@ -434,8 +475,8 @@ fn only_ttl(len: usize, left: &[u8]) -> Result<u32, ZoneError>
     ensures err { IfErr result (FailsTtl len left.now) }
 {
     let (word, rest) = next_word(left);
-    let Some(ttl) = ttl_of(word) else {
-        return Err(wrong_at(len, left, ZoneRule::NoTime));
+    let Some(ttl) = zone_ttl_of(word) else {
+        return Err(wrong_at(len, left, time_fault(word)));
     };
     if after_spaces(rest).is_empty() {
         return Ok(ttl);

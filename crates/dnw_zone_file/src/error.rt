@@ -15,12 +15,21 @@ pub enum ZoneRule {
     /// The owner is a name.
     #[error("the owner is no name")]
     BadOwner,
-    /// A record has a time to live, or `$TTL` or a record before it has one.
+    /// A record has a time to live, or `$TTL` or a record before it has one, or the caller gives one, or it is an SOA.
     #[error("no time to live is there, nor in an entry before")]
     NoTimeToLive,
     /// A record has a type.
     #[error("no type is there")]
     NoType,
+    /// The type of a record has a name that is known, or is `TYPE` with a number.
+    #[error("the type is unknown")]
+    UnknownType,
+    /// OPT, and types of 128 to 255 as ANY and TSIG, are none of a zone (RFC 6895, section 3.1).
+    #[error("no zone has records of this type")]
+    OtherType,
+    /// A time to live is at most 2147483647 seconds (RFC 2181, section 8).
+    #[error("the time is too large")]
+    TimeTooLarge,
     /// An entry that begins with `$` is `$ORIGIN`, `$TTL` or `$INCLUDE`.
     #[error("no entry has this name")]
     UnknownDirective,

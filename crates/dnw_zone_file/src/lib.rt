@@ -2,8 +2,7 @@
 //! each error.
 //!
 //! Read `specs/Entries.antt` first: what an entry is, after those before it. `specs/Steps.antt` has what a text begins with,
-//! `specs/ZoneTexts.antt` what a whole text means, `specs/Written.antt` what is written of a record, and `specs/Checks.antt` what zones
-//! are found to have that the standards forbid.
+//! `specs/ZoneTexts.antt` what a whole text means, and `specs/Written.antt` what is written of a record.
 #![tactic(auto)]
 
 /// What earlier entries say for later ones.
@@ -28,15 +27,3 @@ pub mod writer;
 pub mod short_line;
 /// Records that are written are read as the same.
 pub mod laws;
-/// What zones are found to have.
-pub mod finding;
-/// Checks of zones.
-pub mod checks;
-/// Names that hosts have.
-mod host;
-/// Records of a zone, by their owners.
-mod lookup;
-/// What is found of single records.
-mod own_checks;
-/// What is found of the names of servers.
-mod servers;

@@ -1,13 +1,13 @@
 //! Entries of a text, one after the other.
 ghost use Rattle.std.specs.Prelude.{◌≡◌, ◌≤◌, ◌<◌, drop, length, IfOk, IfSome};
 ghost use Rattle.dnw_zone_record.specs.declared.scan.Ending.TheVariants.{Line, Text};
-ghost use Rattle.dnw_zone_record.specs.Lines.{line_of};
+ghost use Rattle.dnw_zone_record.specs.Lines.{is_indented, line_of};
 ghost use Rattle.dnw_zone_file.specs.Steps.{IsStepAt, IsEntryFound, IsStep, Moves, after_feed, more_step, words_step, wrong_step};
 
 use crate::context::Context;
 use crate::entry::{Entry, entry_of};
 use crate::error::{ZoneError, ZoneRule};
-use dnw_zone_record::scan::{Ending, plain_line, scan};
+use dnw_zone_record::scan::{Ending, fault_offset, is_indented, plain_line, scan};
 use dnw_zone_record::word_error::WordRule;
 use std::alloc::{AllocError, Global};
 
@@ -103,23 +103,25 @@ fn ended(
         Ending::Text if more => return needs_more(),
         Ending::Text => line.len(),
         Ending::Cut(_) if more => return needs_more(),
-        Ending::Cut(rule) => return fails(line.len(), rule, line.len()),
+        Ending::Cut(rule) => {
+            return fails(fault_offset(text, line.len(), rule), rule, line.len());
+        }
         Ending::Wrong(rule) => return wrong_words(text, more, line.len(), rule),
     };
-    entry_found(alloc, context, line, used)
+    entry_found(alloc, context, is_indented(text), line, used)
 }
 
-/// Returns the step that is an error of words at an offset of a text: the next entry is after the next line feed.
-fn wrong_words(text: &[u8], more: bool, offset: usize, rule: WordRule) -> Step
-    requires { offset ≤ length text.now }
-    ensures is { result ≡ wrong_step more text.now offset rule (after_feed (drop offset text.now)) }
+/// Returns the step that is an error of words of a text whose line ends at an offset: the next entry is after the next line feed.
+fn wrong_words(text: &[u8], more: bool, end: usize, rule: WordRule) -> Step
+    requires { end ≤ length text.now }
+    ensures is { result ≡ wrong_step more text.now end rule (after_feed (drop end text.now)) }
     ensures within { result.used ≤ length text.now }
     ensures moves { Moves result }
 {
-    match after_feed(&text[offset..]) {
-        Some(len) => fails(offset, rule, offset + len),
+    match after_feed(&text[end..]) {
+        Some(len) => fails(fault_offset(text, end, rule), rule, end + len),
         None if more => needs_more(),
-        None => fails(offset, rule, text.len()),
+        None => fails(fault_offset(text, end, rule), rule, text.len()),
     }
 }
 
@@ -144,14 +146,20 @@ fn fails(offset: usize, rule: WordRule, used: usize) -> Step
     }
 }
 
-/// Returns the step that is the entry with this line, or why it is none.
+/// Returns the step that is the entry with this line, which begins with white space or not, or why it is none.
 #[inline(always)]
-fn entry_found(alloc: Global, context: &mut Context, line: &[u8], used: usize) -> Step
-    ensures is { IsEntryFound context.old line.now used result context.new }
+fn entry_found(
+    alloc: Global,
+    context: &mut Context,
+    indented: bool,
+    line: &[u8],
+    used: usize,
+) -> Step
+    ensures is { IsEntryFound context.old indented line.now used result context.new }
     ensures used { result.used ≡ used }
     ensures moves { 0 < used → Moves result }
 {
-    match entry_of(alloc, context, line) {
+    match entry_of(alloc, context, indented, line) {
         Ok(entry) => Step {
             used,
             found: Ok(Found::Entry(entry)),

@@ -6,6 +6,7 @@
 //! line is which record.
 #![tactic(auto)]
 
+pub mod data_entry;
 pub mod entry;
 pub mod laws;
 pub mod record_line;

@@ -3,13 +3,16 @@ ghost use Rattle.std.specs.Prelude.{◌≡◌, ◌≢◌, ◌==◌, ◌+◌, ◌
 ghost use Rattle.std.specs.Simd.Lanes.{mask_l};
 ghost use Rattle.dnw_zone_data.specs.Words.{is_plain_octet};
 ghost use Rattle.dnw_zone_record.specs.declared.scan.Ending.TheVariants.{Line, Text};
-ghost use Rattle.dnw_zone_record.specs.Lines.{end_at, is_kept, is_quoted, kept_len, at_line_end, line_of, of_quoted, of_special, on_octet};
+ghost use Rattle.dnw_zone_record.specs.Lines.{begins_string, end_at, fault_offset, is_kept, is_quoted, kept_len, at_line_end, is_indented, line_of, opened_in, of_quoted, of_special, on_octet};
 ghost use Rattle.dnw_zone_record.specs.Inside.Stops.{is_listed, is_stop};
 
 use crate::word_error::WordRule;
 use dnw_zone_data::words::is_plain_octet;
 use std::alloc::AllocError;
 use std::simd::prelude::*;
+
+/// How many parentheses may be open.
+const MAX_OPEN: u8 = 255;
 
 /// How many octets are looked at together.
 const LANES: usize = 16;
@@ -43,8 +46,8 @@ pub enum Place {
 pub enum Octet {
     /// A part of a word, or white space. The next one is at this place.
     Kept(Place),
-    /// A parenthesis, a part of a comment, or the end of a line in parentheses. The next one is at this place, in parentheses or not.
-    Blank(Place, bool),
+    /// A parenthesis, a part of a comment, or the end of a line in parentheses. The next one is at this place, with so many of them open.
+    Blank(Place, u8),
     /// The end of the entry.
     End,
     /// Against a rule.
@@ -68,7 +71,8 @@ pub enum Ending {
 /// same where they are of words or white space, and spaces where they are parentheses, comments or the ends of lines. Quotes and
 /// escapes are left as they are. So an offset in the line is the offset in the text.
 ///
-/// An entry ends at a carriage return or line feed outside quotes and parentheses, and a comment at a line feed.
+/// An entry ends at a carriage return or line feed outside quotes and parentheses, and a comment at a line feed. At most 255
+/// parentheses are open.
 #[tactic(auto, using(crate::proofs::Runs::kept_run))]
 pub fn scan(text: &[u8], line: &mut Vec<u8>) -> Result<Ending, AllocError>
     ensures line { IfOk result (λ ending. line_of text.now ≡ (line.new.items, ending)) }
@@ -78,15 +82,15 @@ pub fn scan(text: &[u8], line: &mut Vec<u8>) -> Result<Ending, AllocError>
 {
     line.clear();
     let mut place = Place::Words;
-    let mut grouped = false;
+    let mut depth = 0;
     let mut left = text;
     loop {
         let (run, others) = split_kept(place, left);
         line.extend_from_slice(run)?;
         let Some((c, rest)) = others.split_first() else {
-            return Ok(end_of(place, grouped));
+            return Ok(end_of(place, depth));
         };
-        match octet_of(place, grouped, *c) {
+        match octet_of(place, depth, *c) {
             Octet::Kept(next) => {
                 line.push(*c)?;
                 place = next;
@@ -94,7 +98,7 @@ pub fn scan(text: &[u8], line: &mut Vec<u8>) -> Result<Ending, AllocError>
             Octet::Blank(next, within) => {
                 line.push(b' ')?;
                 place = next;
-                grouped = within;
+                depth = within;
             }
             Octet::End => return Ok(Ending::Line),
             Octet::Wrong(rule) => return Ok(Ending::Wrong(rule)),
@@ -116,9 +120,9 @@ pub fn plain_line(text: &[u8]) -> Option<(&[u8], Ending)>
     'runs: loop {
         let (_, others) = split_kept(place, left);
         let Some((c, rest)) = others.split_first() else {
-            return Some((text, end_of(place, false)));
+            return Some((text, end_of(place, 0)));
         };
-        match octet_of(place, false, *c) {
+        match octet_of(place, 0, *c) {
             Octet::Kept(next) => place = next,
             Octet::Blank(..) => return None,
             Octet::End => return Some((up_to(text, others), Ending::Line)),
@@ -236,33 +240,33 @@ fn listed(table: u8x16, lanes: u8x16) -> u64
 }
 
 /// Returns how the line ends if the text ends here.
-fn end_of(place: Place, grouped: bool) -> Ending
-    ensures is { result ≡ end_at place grouped }
+fn end_of(place: Place, depth: u8) -> Ending
+    ensures is { result ≡ end_at place depth }
     ensures text { result ≢ Line }
 {
     match place {
         Place::Escaped => Ending::Cut(WordRule::UnfinishedEscape),
         Place::Quoted | Place::QuotedEscaped => Ending::Cut(WordRule::UnclosedQuote),
         Place::Words | Place::Comment => {
-            if grouped {
-                Ending::Cut(WordRule::UnclosedParenthesis)
-            } else {
+            if depth == 0 {
                 Ending::Text
+            } else {
+                Ending::Cut(WordRule::UnclosedParenthesis)
             }
         }
     }
 }
 
-/// Returns what an octet is at a place, in parentheses or not.
-fn octet_of(place: Place, grouped: bool, c: u8) -> Octet
-    ensures { result ≡ on_octet place grouped c }
+/// Returns what an octet is at a place, with so many open parentheses.
+fn octet_of(place: Place, depth: u8, c: u8) -> Octet
+    ensures { result ≡ on_octet place depth c }
 {
     match place {
         Place::Words => {
             if is_plain_octet(c) {
                 Octet::Kept(Place::Words)
             } else {
-                of_special(grouped, c)
+                of_special(depth, c)
             }
         }
         Place::Escaped => {
@@ -276,27 +280,27 @@ fn octet_of(place: Place, grouped: bool, c: u8) -> Octet
         Place::QuotedEscaped => Octet::Kept(Place::Quoted),
         Place::Comment => {
             if c == b'\n' {
-                at_line_end(grouped)
+                at_line_end(depth)
             } else {
-                Octet::Blank(Place::Comment, grouped)
+                Octet::Blank(Place::Comment, depth)
             }
         }
     }
 }
 
 /// Returns what an octet that is not plain is outside of quotes, escapes and comments.
-fn of_special(grouped: bool, c: u8) -> Octet
-    ensures { result ≡ of_special grouped c }
+fn of_special(depth: u8, c: u8) -> Octet
+    ensures { result ≡ of_special depth c }
 {
     match c {
-        b'\n' | b'\r' => at_line_end(grouped),
-        b';' => Octet::Blank(Place::Comment, grouped),
+        b'\n' | b'\r' => at_line_end(depth),
+        b';' => Octet::Blank(Place::Comment, depth),
         b'"' => Octet::Kept(Place::Quoted),
         b'\\' => Octet::Kept(Place::Escaped),
-        b'(' if grouped => Octet::Wrong(WordRule::NestedParenthesis),
-        b'(' => Octet::Blank(Place::Words, true),
-        _ if grouped => Octet::Blank(Place::Words, false),
-        _ => Octet::Wrong(WordRule::UnopenedParenthesis),
+        b'(' if depth == MAX_OPEN => Octet::Wrong(WordRule::NestedParenthesis),
+        b'(' => Octet::Blank(Place::Words, depth + 1),
+        _ if depth == 0 => Octet::Wrong(WordRule::UnopenedParenthesis),
+        _ => Octet::Blank(Place::Words, depth - 1),
     }
 }
 
@@ -320,12 +324,72 @@ fn of_quoted(c: u8) -> Octet
 }
 
 /// Returns what the end of a line is.
-fn at_line_end(grouped: bool) -> Octet
-    ensures { result ≡ at_line_end grouped }
+fn at_line_end(depth: u8) -> Octet
+    ensures { result ≡ at_line_end depth }
 {
-    if grouped {
-        Octet::Blank(Place::Words, true)
-    } else {
+    if depth == 0 {
         Octet::End
+    } else {
+        Octet::Blank(Place::Words, depth)
+    }
+}
+
+/// Returns the offset of what is against a rule, of a text whose line ends at an offset: of the quote or the parenthesis that is not
+/// closed, or the end.
+pub fn fault_offset(text: &[u8], end: usize, rule: WordRule) -> usize
+    ensures { result ≡ fault_offset text.now end rule }
+{
+    match rule {
+        WordRule::UnclosedQuote => opened_in(text).0,
+        WordRule::UnclosedParenthesis => opened_in(text).1,
+        _ => end,
+    }
+}
+
+/// Returns the offsets, at the end of the line, of the last quote that begins a string, and of the parenthesis that is open.
+fn opened_in(text: &[u8]) -> (usize, usize)
+    ensures { result ≡ opened_in text.now }
+{
+    let mut place = Place::Words;
+    let mut depth = 0;
+    let mut quote = 0;
+    let mut group = 0;
+    let mut left = text;
+    while let Some((c, rest)) = left.split_first() {
+        let at = text.len() - left.len();
+        match octet_of(place, depth, *c) {
+            Octet::Kept(next) => {
+                quote = if begins_string(place, *c) { at } else { quote };
+                place = next;
+            }
+            Octet::Blank(next, within) => {
+                group = if depth == 0 { at } else { group };
+                place = next;
+                depth = within;
+            }
+            Octet::End | Octet::Wrong(_) => return (quote, group),
+        }
+        left = rest;
+    }
+    (quote, group)
+}
+
+/// Returns `true` if an octet at a place is a quote that begins a string.
+fn begins_string(place: Place, c: u8) -> bool
+    ensures { result ≡ begins_string place c }
+{
+    match place {
+        Place::Words => c == b'"',
+        _ => false,
+    }
+}
+
+/// Returns `true` if a text begins with white space, and so leaves out the owner. A parenthesis is none.
+pub fn is_indented(text: &[u8]) -> bool
+    ensures { result ≡ is_indented text.now }
+{
+    match text.first() {
+        Some(first) => *first == b' ' || *first == b'\t',
+        None => false,
     }
 }

@@ -4,8 +4,8 @@ use thiserror::Error;
 /// A rule for the text of a master file (RFC 1035, section 5.1).
 #[derive(Debug, Clone, Copy, PartialEq, Eq, Error)]
 pub enum WordRule {
-    /// Parentheses do not stand in parentheses.
-    #[error("a parenthesis is opened within parentheses")]
+    /// At most 255 parentheses are open.
+    #[error("more than 255 parentheses are open")]
     NestedParenthesis,
     /// A closing parenthesis has an opening one.
     #[error("no parenthesis is open")]

@@ -9,8 +9,7 @@ use Rattle.jiff_core.specs.declared.civil.date.Date.{Date}
 use Rattle.std.specs.List.{AllPass}
 use Rattle.std.specs.Char.{is_ascii_digit}
 use Rattle.std.proofs.lemmas.List.Elements.{All-cons, All-nil}
-use Rattle.dnw_zone_values.specs.Numbers.{max_u32}
-use Rattle.dnw_zone_values.specs.Times.{IsDay, IsMoment, IsDateText, IsTimeText, two_at}
+use Rattle.dnw_zone_values.specs.Times.{IsDay, IsMoment, IsDateText, IsTimeText, time_count, two_at}
 
 -- no day since then is in a year before 0
 year_is : (y : ℤ) (m d days : ℕ) → IsCivilDate y m d → days_from_civil y m d ≡ pos days → y ≡ pos (unsigned_abs y)
@@ -86,9 +85,9 @@ dates_agree text a b one other =
     omega (arith, same, x, y)
 
 pub times_agree : (text : List ℕ) (a b : ℕ) → IsTimeText text a → IsTimeText text b → a ≡ b
-times_agree text a b (inl one) (inl other) = dates_agree text a b one.0 other.0
-times_agree text a b (inl one) (inr other) = absurd (other.0 one.0.digits.0)
-times_agree text a b (inr one) (inl other) = absurd (one.0 other.0.digits.0)
+times_agree text a b (inl one) (inl other) = one.2 ∙ ap (λ n. n % time_count) (dates_agree text one.0 other.0 one.1 other.1) ∙ sym other.2
+times_agree text a b (inl one) (inr other) = absurd (other.0 one.1.digits.0)
+times_agree text a b (inr one) (inl other) = absurd (one.0 other.1.digits.0)
 times_agree text a b (inr one) (inr other) = sym one.1.1 ∙ other.1.1
 
 moment_by : (days h m s days′ h′ m′ s′ seconds : ℕ) → IsMoment days h m s seconds → days′ ≡ days → h′ ≡ h → m′ ≡ m → s′ ≡ s → IsMoment days′ h′ m′ s′ seconds
@@ -97,10 +96,10 @@ moment_by days h m s days′ h′ m′ s′ seconds is ed eh em es = rw (ed, eh,
 -- a date with a time of day, or none
 pub whole : (text : List ℕ) (days h m s : ℕ) (r : Option ℕ) → length text ≡ 14 → AllPass is_ascii_digit text
     → IsDay (100 * two_at text 0 + two_at text 2) (two_at text 4) (two_at text 6) days → h ≡ two_at text 8 → m ≡ two_at text 10 → s ≡ two_at text 12
-    → MatchOption r ((seconds : ℕ) → seconds ≤ max_u32 → ¬ (IsMoment days h m s seconds)) (IsMoment days h m s)
-    → MatchOption r ((seconds : ℕ) → seconds ≤ max_u32 → ¬ (IsDateText text seconds)) (IsDateText text)
+    → MatchOption r ((seconds : ℕ) → ¬ (IsMoment days h m s seconds)) (IsMoment days h m s)
+    → MatchOption r ((seconds : ℕ) → ¬ (IsDateText text seconds)) (IsDateText text)
 whole text days h m s (Some x) size pass day eh em es moment =
     record { days = days; digits = (size, pass); date = day; moment = moment_by days h m s days _ _ _ x moment refl (sym eh) (sym em) (sym es) }
-whole text days h m s None size pass day eh em es none = λ seconds fits own.
+whole text days h m s None size pass day eh em es none = λ seconds own.
     let same : days ≡ own.days = pos_same _ _ (sym day.after ∙ own.date.after) in
-    none seconds fits (moment_by own.days _ _ _ days h m s seconds own.moment same eh em es)
+    none seconds (moment_by own.days _ _ _ days h m s seconds own.moment same eh em es)

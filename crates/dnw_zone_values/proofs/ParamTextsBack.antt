@@ -28,7 +28,7 @@ use Rattle.dnw_zone_values.specs.declared.keys.Form.{Form}
 use Rattle.dnw_zone_values.specs.declared.keys.Form.TheVariants as forms
 use Rattle.dnw_zone_values.specs.declared.lists.ListValue.{ListValue}
 use Rattle.dnw_zone_values.specs.declared.lists.ListValue.TheVariants.{Keys, Protocols, Ipv4, Ipv6}
-use Rattle.dnw_zone_values.specs.ParamKeys.{form_of, generic_key, key_name, key_text, named_key, IsKey}
+use Rattle.dnw_zone_values.specs.ParamKeys.{form_of, generic_key, key_name, key_text, named_form, named_key, IsKey}
 use Rattle.dnw_zone_values.specs.CommaLists.{is_escaped, items_from, items_of, item_octet, item_text}
 use Rattle.dnw_zone_values.specs.ParamValues.{after_comma, octets_of_item, is_item, text_of_item, items_within, list_text, is_ascending, IsItem, IsListText}
 use Rattle.dnw_zone_values.specs.ParamTexts.{any_part, own_part, own_text, param_text, part_of}
@@ -61,6 +61,7 @@ decimal_key n h =
     (λ n ds ten so_far. key_append ds ((48 + n % 10) ∷ []) so_far (rw (digit_key (n % 10) (omega arith)) refl)) n h
 
 name_key : (form : Form) (key : ℕ) → key < 2 ^ 64 → all_key (key_name form key) ≡ true
+name_key forms.Template key few = decimal_key key few
 name_key forms.Any key few = decimal_key key few
 name_key form key few = refl
 
@@ -218,19 +219,19 @@ high key h =
     rw (ne_eqb key 0 (omega (arith, h)), ne_eqb key 1 (omega (arith, h)), ne_eqb key 2 (omega (arith, h)), ne_eqb key 3 (omega (arith, h)), ne_eqb key 4 (omega (arith, h)), ne_eqb key 5 (omega (arith, h)), ne_eqb key 6 (omega (arith, h)))
     refl
 
-named : (key : ℕ) → (named_key (key_text key) ≡ Some key) ⊎ (form_of key ≡ forms.Any)
-named zero = inl refl
-named (suc zero) = inl refl
-named (suc (suc zero)) = inl refl
-named (suc (suc (suc zero))) = inl refl
-named (suc (suc (suc (suc zero)))) = inl refl
-named (suc (suc (suc (suc (suc zero))))) = inl refl
-named (suc (suc (suc (suc (suc (suc zero)))))) = inl refl
+named : (key : ℕ) → ((named_key (key_text key) ≡ Some key) × (named_form key ≡ form_of key)) ⊎ (form_of key ≡ forms.Any)
+named zero = inl (refl, refl)
+named (suc zero) = inl (refl, refl)
+named (suc (suc zero)) = inl (refl, refl)
+named (suc (suc (suc zero))) = inl (refl, refl)
+named (suc (suc (suc (suc zero)))) = inl (refl, refl)
+named (suc (suc (suc (suc (suc zero))))) = inl (refl, refl)
+named (suc (suc (suc (suc (suc (suc zero)))))) = inl (refl, refl)
 named (suc (suc (suc (suc (suc (suc (suc key))))))) = inr (high (suc (suc (suc (suc (suc (suc (suc key))))))) (omega arith))
 
 key_is : (key : ℕ) → key ≤ 65535 → IsKey (key_text key) key
 key_is key few = elim (named key) [
-  | inl is ↦ inl is
+  | inl is ↦ inl is.0
   | inr any ↦ inr (few, rw any refl)
 ]
 
@@ -540,6 +541,7 @@ own_back forms.Ech (o ∷ octets) t h e =
     let is : IsValueBack forms.Ech (o ∷ octets) (base64_text (o ∷ octets)) = ((open_utf8 (base64_text (o ∷ octets)) shape, base64_some o octets, (h, refl)), shape) in
     subst (λ (x : List ℕ). IsValueBack forms.Ech (o ∷ octets) x) same is
 own_back forms.Ipv6 octets t h e = list_back Ipv6 octets t h tt e
+own_back forms.Template octets t h e = absurd cc
 own_back forms.Any octets t h e = absurd cc
 
 -- ---- parameters
@@ -601,6 +603,7 @@ form_written forms.Port k t own key is fine few = open_written k t key fine (tex
 form_written forms.Ipv4 k t own key is fine few = open_written k t key fine (text_some forms.Ipv4 t own (λ e. cc) is) few
 form_written forms.Ech k t own key is fine few = open_written k t key fine (text_some forms.Ech t own (λ e. cc) is) few
 form_written forms.Ipv6 k t own key is fine few = open_written k t key fine (text_some forms.Ipv6 t own (λ e. cc) is) few
+form_written forms.Template k t own key is fine few = open_written k t key fine (text_some forms.Template t own (λ e. cc) is) few
 form_written forms.Any k t own key is fine few = absurd is
 
 -- a text is a parameter, and has this shape
@@ -625,7 +628,7 @@ named_back p t is e few = elim (named p.key) [
       let form = form_of p.key in
       let key = name_key form p.key (omega (arith, is.0)) in
       let back = own_back form p.octets t is.1 e in
-      word_is (key_text p.key) (own_part form t) t p key (form_written form (key_text p.key) t p.octets key back.0 back.1 few) (inl (name, back.0, is.2))
+      word_is (key_text p.key) (own_part form t) t p key (form_written form (key_text p.key) t p.octets key back.0 back.1 few) (inl (name.0, subst (λ f. IsOwnValue f t p.octets) (sym name.1) back.0, is.2))
   | inr any ↦ let no = rw any at e in absurd cc
 ]
 

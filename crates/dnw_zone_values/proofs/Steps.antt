@@ -19,7 +19,7 @@ use Rattle.dnw_zone_values.specs.declared.keys.Form.{Form}
 use Rattle.dnw_zone_values.specs.declared.keys.Form.TheVariants as forms
 use Rattle.dnw_zone_values.specs.declared.lists.ListValue.{ListValue}
 use Rattle.dnw_zone_values.specs.declared.lists.ListValue.TheVariants.{Keys, Protocols, Ipv4, Ipv6}
-use Rattle.dnw_zone_values.specs.ParamKeys.{form_of, generic_key, named_key, IsKey}
+use Rattle.dnw_zone_values.specs.ParamKeys.{generic_key, named_form, named_key, IsKey}
 use Rattle.dnw_zone_values.specs.CommaLists.{comma, items_of}
 use Rattle.dnw_zone_values.specs.ParamValues.{is_ascending, octets_of_item, is_item, text_of_item, items_within, IsItem, AreItems, IsListText}
 use Rattle.dnw_zone_values.specs.Params.{ParamValue, in_key_order}
@@ -174,6 +174,7 @@ one_value forms.Port value a b x y = x.3 ∙ ap (to_be_bytes w16) (sym x.2.1 ∙
 one_value forms.Ipv4 value a b x y = one_list Ipv4 value a b x y
 one_value forms.Ech value a b x y = (base64 b y.2.0).1 a (subst (λ (t : List ℕ). IsBase64Text t a) y.2.1 x.2)
 one_value forms.Ipv6 value a b x y = one_list Ipv6 value a b x y
+one_value forms.Template value a b x y = x.2 ∙ sym y.2
 one_value forms.Any value a b x y = absurd x
 
 -- no text without characters is an item, or a value of a form that has one
@@ -218,6 +219,7 @@ value_some forms.Port own other is = omega (arith, is.2.0.0)
 value_some forms.Ipv4 own other is = list_some Ipv4 own is
 value_some forms.Ech own other is = omega (arith, is.1)
 value_some forms.Ipv6 own other is = list_some Ipv6 own is
+value_some forms.Template own other is = omega (arith, is.1)
 value_some forms.Any own other is = is
 
 -- a value that writes octets has characters
@@ -284,7 +286,7 @@ one_of : (key value : List ℕ) (a b : ParamValue) → IsParamOf key value a →
 one_of key value a b (inl x) (inl y) =
     let e : Some a.key ≡ Some b.key = sym x.0 ∙ y.0 in
     let k : a.key ≡ b.key = cc in
-    same_param a b k (one_value (form_of b.key) value a.octets b.octets (subst (λ (i : ℕ). IsOwnValue (form_of i) value a.octets) k x.1) y.1)
+    same_param a b k (one_value (named_form b.key) value a.octets b.octets (subst (λ (i : ℕ). IsOwnValue (named_form i) value a.octets) k x.1) y.1)
 one_of key value a b (inl x) (inr y) = let no : Some a.key ≡ None = sym x.0 ∙ no_name key b.key y.0.1 in absurd cc
 one_of key value a b (inr x) (inl y) = let no : Some b.key ≡ None = sym y.0 ∙ no_name key a.key x.0.1 in absurd cc
 one_of key value a b (inr x) (inr y) = same_param a b (same_digits a.key b.key (ap (drop 3) (sym x.0.1 ∙ y.0.1)) x.0.0 y.0.0) (x.1 ∙ sym y.1)

@@ -1,9 +1,10 @@
 -- The keys of service parameters as text (RFC 9460, sections 2.1 and 14.3.2): a name in lower case, or `key` and the number in
--- decimal without zeros before it, which any key may be written as.
+-- decimal without zeros before it, which any key may be written as. The names `dohpath` (RFC 9461, section 5) and `ohttp` (RFC 9540,
+-- section 4) are read; these keys are printed by their numbers, which more servers read.
 use Rattle.std.specs.Prelude.{ℕ, ◌==◌, ◌≡◌, ◌≤◌, ◌⊎◌, ◌++◌, if◌then◌else◌, List, Option, Some, None, codes, decimal}
 use Rattle.std.specs.Str.{bytes_eq}
 use Rattle.dnw_zone_values.specs.declared.keys.Form.{Form}
-use Rattle.dnw_zone_values.specs.declared.keys.Form.TheVariants.{Mandatory, Protocols, Nothing, Port, Ipv4, Ech, Ipv6, Any}
+use Rattle.dnw_zone_values.specs.declared.keys.Form.TheVariants.{Mandatory, Protocols, Nothing, Port, Ipv4, Ech, Ipv6, Template, Any}
 
 -- the greatest key, since it is written in two octets
 abbrev pub max_key : ℕ
@@ -13,7 +14,7 @@ max_key = 65535
 abbrev pub generic_key : ℕ → List ℕ
 generic_key key = codes "key" ++ decimal key
 
--- the form of the values of a key
+-- the form in which the values of a key are printed
 abbrev pub form_of : ℕ → Form
 form_of key =
     if key == 0 then Mandatory
@@ -25,6 +26,10 @@ form_of key =
     else if key == 6 then Ipv6
     else Any
 
+-- the form of a value after the name of its key
+abbrev pub named_form : ℕ → Form
+named_form key = if key == 7 then Template else if key == 8 then Nothing else form_of key
+
 -- the name of a key whose values have this form, or its number
 abbrev pub key_name : Form → ℕ → List ℕ
 key_name Mandatory key = codes "mandatory"
@@ -34,7 +39,7 @@ key_name Port key = codes "port"
 key_name Ipv4 key = codes "ipv4hint"
 key_name Ech key = codes "ech"
 key_name Ipv6 key = codes "ipv6hint"
-key_name Any key = generic_key key
+key_name form key = generic_key key
 
 abbrev pub key_text : ℕ → List ℕ
 key_text key = key_name (form_of key) key
@@ -49,6 +54,8 @@ named_key text =
     else if bytes_eq text (codes "ipv4hint") then Some 4
     else if bytes_eq text (codes "ech") then Some 5
     else if bytes_eq text (codes "ipv6hint") then Some 6
+    else if bytes_eq text (codes "dohpath") then Some 7
+    else if bytes_eq text (codes "ohttp") then Some 8
     else None
 
 -- the text is the number of this key

@@ -22,7 +22,7 @@ own_text forms.Port octets = if length octets == 2 then Some (decimal (from_be_b
 own_text forms.Ipv4 octets = list_text Ipv4 octets
 own_text forms.Ech octets = if length octets == 0 then None else Some (base64_text octets)
 own_text forms.Ipv6 octets = list_text Ipv6 octets
-own_text forms.Any octets = None
+own_text form octets = None
 
 -- what is after the key: nothing for none, else the value, in quotes if its octets may be any
 abbrev pub any_part : List ℕ → List ℕ

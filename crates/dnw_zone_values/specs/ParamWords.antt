@@ -10,7 +10,7 @@ use Rattle.dnw_zone_values.specs.Strings.{IsLongText}
 use Rattle.dnw_zone_values.specs.declared.keys.Form.{Form}
 use Rattle.dnw_zone_values.specs.declared.keys.Form.TheVariants as forms
 use Rattle.dnw_zone_values.specs.declared.lists.ListValue.TheVariants.{Keys, Protocols, Ipv4, Ipv6}
-use Rattle.dnw_zone_values.specs.ParamKeys.{form_of, named_key, IsGenericKey}
+use Rattle.dnw_zone_values.specs.ParamKeys.{named_form, named_key, IsGenericKey}
 use Rattle.dnw_zone_values.specs.ParamValues.{IsListText}
 use Rattle.dnw_zone_values.specs.Params.{ParamValue, in_key_order}
 use Rattle.dnw_zone_values.specs.ParamTexts.{equals, max_value}
@@ -48,7 +48,8 @@ abbrev pub AreMandatory : List ℕ → List ℕ → Type 0
 AreMandatory value own =
     (listed : List ℕ) × (keys : List ParamValue) × IsListText Keys value listed × (in_key_order [] (keys_of listed) ≡ Some keys) × (own ≡ keys_wire keys)
 
--- the octets are what a value of this form stands for (RFC 9460, sections 7 and 8; RFC 9848 for ech)
+-- the octets are what a value of this form stands for (RFC 9460, sections 7 and 8; RFC 9848 for ech; RFC 9461, section 5,
+-- for dohpath; RFC 9540, section 4, for ohttp)
 abbrev pub IsOwnValue : Form → List ℕ → List ℕ → Type 0
 IsOwnValue forms.Mandatory value own = AreMandatory value own
 IsOwnValue forms.Protocols value own = IsListText Protocols value own
@@ -57,12 +58,13 @@ IsOwnValue forms.Port value own = (n : ℕ) × IsUtf8 value × IsNumberText max_
 IsOwnValue forms.Ipv4 value own = IsListText Ipv4 value own
 IsOwnValue forms.Ech value own = IsUtf8 value × (1 ≤ length value) × IsBase64Text value own
 IsOwnValue forms.Ipv6 value own = IsListText Ipv6 value own
+IsOwnValue forms.Template value own = IsUtf8 value × (1 ≤ length value) × (own ≡ value)
 IsOwnValue forms.Any value own = ⊥
 
 -- a key by its name has a value of its form; by its number, any octets
 abbrev pub IsParamOf : List ℕ → List ℕ → ParamValue → Type 0
 IsParamOf key value p =
-    ((named_key key ≡ Some p.key) × IsOwnValue (form_of p.key) value p.octets × (length p.octets ≤ max_value))
+    ((named_key key ≡ Some p.key) × IsOwnValue (named_form p.key) value p.octets × (length p.octets ≤ max_value))
     ⊎ (IsGenericKey key p.key × (p.octets ≡ value))
 
 -- the word is this parameter; its value may have any octets as they are (RFC 9460, appendix A: `OCTET`)

@@ -1,6 +1,6 @@
 -- Times as text (RFC 4034, section 3.2): YYYYMMDDHHmmSS in UTC, or a decimal number of seconds since 1970; only the first
--- has 14 digits.
-use Rattle.std.specs.Prelude.{◌≡◌, ◌≢◌, ◌≤◌, ◌<◌, ℕ, ◌+◌, ◌-◌, ◌*◌, ◌⊎◌, pos, List, length, slice_index}
+-- has 14 digits. A time has 32 bits, so that of a date is counted from zero again after them (section 3.1.5).
+use Rattle.std.specs.Prelude.{◌≡◌, ◌≢◌, ◌≤◌, ◌<◌, ℕ, ◌+◌, ◌-◌, ◌*◌, ◌%◌, ◌⊎◌, pos, List, length, slice_index}
 use Rattle.std.specs.List.{AllPass}
 use Rattle.std.specs.Char.{is_ascii_digit}
 use Rattle.std.specs.Int.{IsInRange}
@@ -31,7 +31,11 @@ pub record IsDateText (text : List ℕ) (seconds : ℕ) : Type 0 where
   pub date : IsDay (100 * two_at text 0 + two_at text 2) (two_at text 4) (two_at text 6) days
   pub moment : IsMoment days (two_at text 8) (two_at text 10) (two_at text 12) seconds
 
+-- how many times there are
+abbrev pub time_count : ℕ
+time_count = 4294967296
+
 -- the text is this time, as a date or as a number
 abbrev pub IsTimeText : List ℕ → ℕ → Type 0
 IsTimeText text seconds =
-    (IsDateText text seconds × (seconds ≤ max_u32)) ⊎ ((length text ≢ 14) × IsNumberText max_u32 text seconds)
+    ((moment : ℕ) × IsDateText text moment × (seconds ≡ moment % time_count)) ⊎ ((length text ≢ 14) × IsNumberText max_u32 text seconds)

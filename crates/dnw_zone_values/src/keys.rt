@@ -1,6 +1,6 @@
-//! Keys (RFC 9460, section 14.3.2).
+//! Keys (RFC 9460, section 14.3.2; RFC 9461, section 5; RFC 9540, section 4).
 ghost use Rattle.std.specs.Prelude.{◌≡◌, ℕ, Some, MatchOption};
-ghost use Rattle.dnw_zone_values.specs.ParamKeys.{form_of, key_text, named_key, IsGenericKey, IsKey};
+ghost use Rattle.dnw_zone_values.specs.ParamKeys.{form_of, key_text, named_form, named_key, IsGenericKey, IsKey};
 
 use crate::number::parse_u16;
 use itoa::Buffer;
@@ -13,7 +13,7 @@ pub(crate) enum Form {
     Mandatory,
     /// A list of identifiers of protocols: `alpn`.
     Protocols,
-    /// No value: `no-default-alpn`.
+    /// No value: `no-default-alpn` and `ohttp`.
     Nothing,
     /// A number of two octets: `port`.
     Port,
@@ -23,11 +23,13 @@ pub(crate) enum Form {
     Ech,
     /// A list of IPv6 addresses: `ipv6hint`.
     Ipv6,
-    /// Any octets: a key without a name.
+    /// A template of a URI, in UTF-8: `dohpath`.
+    Template,
+    /// Any octets: a key that is printed by its number.
     Any,
 }
 
-/// Returns the form of the values of a key.
+/// Returns the form in which the values of a key are printed.
 pub(crate) fn form_of(key: u16) -> Form
     ensures { result ≡ form_of key }
 {
@@ -40,6 +42,17 @@ pub(crate) fn form_of(key: u16) -> Form
         5 => Form::Ech,
         6 => Form::Ipv6,
         _ => Form::Any,
+    }
+}
+
+/// Returns the form of a value after the name of its key.
+pub(crate) fn named_form(key: u16) -> Form
+    ensures { result ≡ named_form key }
+{
+    match key {
+        7 => Form::Template,
+        8 => Form::Nothing,
+        _ => form_of(key),
     }
 }
 
@@ -59,7 +72,7 @@ impl fmt::Display for Key {
             Form::Ipv4 => f.write_str("ipv4hint"),
             Form::Ech => f.write_str("ech"),
             Form::Ipv6 => f.write_str("ipv6hint"),
-            Form::Any => write!(f, "key{}", self.0),
+            Form::Template | Form::Any => write!(f, "key{}", self.0),
         }
     }
 }
@@ -76,6 +89,8 @@ pub(crate) fn named_key(text: &str) -> Option<u16>
         "ipv4hint" => Some(4),
         "ech" => Some(5),
         "ipv6hint" => Some(6),
+        "dohpath" => Some(7),
+        "ohttp" => Some(8),
         _ => None,
     }
 }

@@ -1,11 +1,10 @@
 //! Times of signatures (RFC 4034, section 3.2): seconds since 1970-01-01 00:00:00 UTC, as a 32-bit number.
-ghost use Rattle.std.specs.Prelude.{◌≡◌, ◌≤◌, ◌<◌, ◌+◌, ◌*◌, ◌++◌, ◌/◌, ◌%◌, ◌∷◌, ℕ, [], true, false, length, IfSome, MatchOption};
+ghost use Rattle.std.specs.Prelude.{◌≡◌, ◌≤◌, ◌<◌, ◌+◌, ◌*◌, ◌++◌, ◌/◌, ◌%◌, ◌∷◌, ℕ, [], true, false, length, MatchOption};
 ghost use Rattle.std.specs.List.{AllPass};
 ghost use Rattle.std.specs.Char.{is_ascii_digit};
 ghost use Rattle.arrayvec.specs.ArrayString.{array_string_len};
 ghost use Rattle.dnw_zone_values.specs.Spelling.{ReadsText};
 ghost use Rattle.dnw_zone_values.specs.Times.{IsDay, IsMoment, two_at, IsDateText, IsTimeText};
-ghost use Rattle.dnw_zone_values.specs.Numbers.{max_u32};
 ghost use Rattle.dnw_zone_values.specs.declared.error.FieldTextError.TheVariants.{Time as TimeWanted};
 
 use crate::error::FieldTextError;
@@ -15,6 +14,9 @@ use jiff_core::civil::Date;
 
 /// The characters of a date with a time of day.
 const DATE_LEN: usize = 14;
+
+/// How many times there are.
+const TIME_COUNT: u64 = 4294967296;
 
 /// The seconds of a day.
 const DAY: u32 = 86400;
@@ -42,7 +44,8 @@ pub fn time_text(seconds: u32) -> ArrayString<DATE_LEN>
 
 /// Parses a time: 14 digits as YYYYMMDDHHmmSS, or else a decimal number of seconds.
 ///
-/// Fails with `Time` if the text is no such time, or one that is not from 1970 to 2106.
+/// Fails with `Time` if the text is no such time, or one before 1970. A date after 2106 has the seconds modulo 2^32 (RFC 4034,
+/// section 3.1.5).
 ///
 /// ```
 /// parse_time("20030322173103")?; // 1048354263
@@ -62,17 +65,17 @@ pub fn read_time(text: &[u8]) -> Option<u32>
     ensures { MatchOption result ((seconds : ℕ) → ¬ (IsTimeText text.now seconds)) (IsTimeText text.now) }
 {
     if text.len() == DATE_LEN {
-        return date_seconds(text);
+        let seconds = date_seconds(text)?;
+        return Some((seconds % TIME_COUNT) as u32);
     }
     let seconds = number_up_to(text, 4294967295)?;
     Some(seconds as u32)
 }
 
-/// Returns the seconds of a date with a time of day, if they are less than 2^32.
-fn date_seconds(text: &[u8]) -> Option<u32>
+/// Returns the seconds from 1970 to a date with a time of day.
+fn date_seconds(text: &[u8]) -> Option<u64>
     requires { length text.now ≡ 14 }
-    ensures is { MatchOption result ((seconds : ℕ) → seconds ≤ max_u32 → ¬ (IsDateText text.now seconds)) (IsDateText text.now) }
-    ensures few { IfSome result (λ seconds. seconds ≤ max_u32) }
+    ensures { MatchOption result ((seconds : ℕ) → ¬ (IsDateText text.now seconds)) (IsDateText text.now) }
 {
     if !is_digits(text) {
         return None;
@@ -83,20 +86,15 @@ fn date_seconds(text: &[u8]) -> Option<u32>
     moment_seconds(days, two_at(text, 8), two_at(text, 10), two_at(text, 12))
 }
 
-/// Returns the seconds to a time of day on the day with this number, if there is such a time and they are less than 2^32.
-fn moment_seconds(days: u32, hour: u8, minute: u8, second: u8) -> Option<u32>
-    ensures { MatchOption result ((seconds : ℕ) → seconds ≤ max_u32 → ¬ (IsMoment days hour minute second seconds)) (IsMoment days hour minute second) }
+/// Returns the seconds to a time of day on the day with this number, if there is such a time.
+fn moment_seconds(days: u32, hour: u8, minute: u8, second: u8) -> Option<u64>
+    ensures { MatchOption result ((seconds : ℕ) → ¬ (IsMoment days hour minute second seconds)) (IsMoment days hour minute second) }
 {
     if hour > 23 || minute > 59 || second > 59 {
         return None;
     }
     let clock = u64::from(hour) * 3600 + u64::from(minute) * 60 + u64::from(second);
-    let seconds = u64::from(days) * 86400 + clock;
-    if seconds < 4294967296 {
-        Some(seconds as u32)
-    } else {
-        None
-    }
+    Some(u64::from(days) * 86400 + clock)
 }
 
 /// Returns `true` if each character is a digit.

@@ -1,4 +1,4 @@
-//! Values in the form of their keys (RFC 9460, sections 7 and 8; RFC 9848 for ech).
+//! Values in the form of their keys (RFC 9460, sections 7 and 8; RFC 9848 for ech; RFC 9461 for dohpath; RFC 9540 for ohttp).
 ghost use Rattle.std.specs.Prelude.{◌≡◌, ◌≤◌, ◌++◌, ℕ, List, [], None, Some, IfOk, OnErr, MatchOption, length};
 ghost use Rattle.dnw_zone_values.specs.Params.{in_key_order};
 ghost use Rattle.dnw_zone_values.specs.ParamTexts.{own_text};
@@ -32,6 +32,7 @@ pub(crate) fn own_value(
         Form::Ipv4 => parse_list(alloc, ListValue::Ipv4, value),
         Form::Ech => ech_of(alloc, value),
         Form::Ipv6 => parse_list(alloc, ListValue::Ipv6, value),
+        Form::Template => template_of(alloc, value),
         Form::Nothing | Form::Any => Ok(None),
     }
 }
@@ -75,6 +76,16 @@ fn ech_of(alloc: Global, value: &[u8]) -> Result<Option<Vec<u8>>, AllocError>
         Err(FieldTextError::Memory) => Err(AllocError),
         Err(_) => Ok(None),
     }
+}
+
+/// Returns the octets of a template, which are UTF-8, one or more.
+fn template_of(alloc: Global, value: &[u8]) -> Result<Option<Vec<u8>>, AllocError>
+    ensures { IfOk result (λ x. MatchOption x ((own : List ℕ) → ¬ (IsOwnValue Form.Template value.now own)) (λ own. IsOwnValue Form.Template value.now own.items)) }
+{
+    if value.is_empty() || str::from_utf8(value).is_err() {
+        return Ok(None);
+    }
+    Ok(Some(Vec::from_slice(alloc, value)?))
 }
 
 /// Returns the octets of a list of keys, in their order, if none is there twice.

@@ -6,7 +6,7 @@ ghost use Rattle.dnw_zone_values.specs.Params.{ParamValue};
 ghost use Rattle.dnw_zone_values.specs.ParamWords.{is_equals, key_part, value_part, HasValue, IsValueText, IsParam, IsParamOf};
 
 use crate::error::FieldTextError;
-use crate::keys::{form_of, generic_key, named_key};
+use crate::keys::{generic_key, named_form, named_key};
 use crate::param::{MAX_VALUE, Param};
 use crate::string::parse_text;
 use crate::values::own_value;
@@ -90,7 +90,7 @@ fn param_of(alloc: Global, key: &str, own: Vec<u8>) -> Result<Option<Param>, All
     let Some(number) = named_key(key) else {
         return Ok(None);
     };
-    let Some(octets) = own_value(alloc, form_of(number), own.as_slice())? else {
+    let Some(octets) = own_value(alloc, named_form(number), own.as_slice())? else {
         return Ok(None);
     };
     if octets.len() > MAX_VALUE {

@@ -146,7 +146,7 @@ fn included(alloc: Global, entry: &str) -> Result<usize, Fail> {
     let mut line = Vec::new(alloc);
     scan(entry.as_bytes(), &mut line)?;
     let mut context = Context::new(Name::from_ascii(alloc, "example.")?);
-    match entry_of(alloc, &mut context, line.as_slice())? {
+    match entry_of(alloc, &mut context, false, line.as_slice())? {
         Entry::Include(found) => Ok(found.file_len),
         _ => Err(Fail::from("an entry that includes a file")),
     }
@@ -218,6 +218,39 @@ fn is_copied(alloc: Global, counts: [u8; 3]) -> Result<bool, Fail> {
     let mut writer = WriterState::new();
     writer.copy(alloc, room.as_mut_slice(), &message, 65_535)?;
     Ok(writer.end == bytes.len() && room.as_slice().starts_with(bytes.as_slice()))
+}
+
+/// Returns whether a response of so many records, and an `OPT` record, is padded to a multiple of 468 octets (RFC 8467, section 4.1).
+fn is_padded(alloc: Global, answers: u8) -> Result<bool, Fail> {
+    let mut bytes = Vec::new(alloc);
+    bytes.extend_from_slice(b"\0\x07\x84\0\0\0\0")?;
+    bytes.extend_from_slice(&[answers])?;
+    bytes.extend_from_slice(b"\0\0\0\x01")?;
+    for number in 0..answers {
+        let own = octets(alloc, usize::from(number))?;
+        let code = 65_280u16.saturating_add(u16::from(number));
+        bytes.extend_from_slice(record_octets(alloc, code, own.as_slice())?.as_slice())?;
+    }
+    bytes.extend_from_slice(b"\0\0\x29\x04\xd0\0\0\0\0")?;
+    let kept = bytes.len();
+    bytes.extend_from_slice(b"\0\0")?;
+    let message = MessageRef::read(bytes.as_slice())?;
+    let mut room = Vec::new(alloc);
+    room.resize(65_535, 0)?;
+    let mut writer = WriterState::new();
+    writer.copy_padded(alloc, room.as_mut_slice(), &message, 65_535, 468)?;
+    let is_same = room.as_slice().get(..kept).unwrap_or_default()
+        == bytes.as_slice().get(..kept).unwrap_or_default();
+    Ok(is_same && writer.end % 468 == 0)
+}
+
+#[test]
+fn messages_of_each_size_are_padded(rt: HostRuntime) -> Result<(), Fail> {
+    let alloc = rt.alloc();
+    for count in 0u8..101 {
+        assert!(rt; is_padded(alloc, count)?);
+    }
+    Ok(())
 }
 
 #[test]

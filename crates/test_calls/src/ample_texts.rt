@@ -141,7 +141,7 @@ fn entries_of_zone_files_may_have_any_size(rt: HostRuntime) -> Result<(), Fail> 
         assert!(rt; scan(line.as_bytes(), &mut scanned).is_ok());
         assert_eq!(rt; scanned.as_slice(), line.as_bytes());
         let mut context = Context::new(Name::from_ascii(alloc, "example.")?);
-        assert!(rt; entry_of(alloc, &mut context, scanned.as_slice()).is_ok());
+        assert!(rt; entry_of(alloc, &mut context, false, scanned.as_slice()).is_ok());
     }
     Ok(())
 }

@@ -268,7 +268,7 @@ fn zone_files_have_records_of_each_type(rt: HostRuntime) -> Result<(), Fail> {
         let mut scanned = Vec::new(alloc);
         scan(line.as_slice(), &mut scanned)?;
         let mut context = Context::new(Name::root(alloc));
-        let entry = entry_of(alloc, &mut context, scanned.as_slice())?;
+        let entry = entry_of(alloc, &mut context, false, scanned.as_slice())?;
         assert!(rt;
             matches!(entry, Entry::Record(found) if found.wire.as_slice() == it.data.as_slice())
         );

@@ -50,6 +50,22 @@ fn copied(alloc: Global, octets: &[u8], max_size: usize) -> Result<Vec<u8>, Copy
     Vec::from_slice(alloc, &buffer[..writer.end.min(512)]).map_err(|_| CopyError::Memory)
 }
 
+/// The octets of a padded copy, or why there is none.
+fn padded(
+    alloc: Global,
+    octets: &[u8],
+    max_size: usize,
+    block: usize,
+) -> Result<Vec<u8>, CopyError> {
+    let Ok(message) = MessageRef::read(octets) else {
+        return Err(CopyError::Write(WriteError::NoMessage));
+    };
+    let mut buffer = [7; 1024];
+    let mut writer = WriterState::new();
+    writer.copy_padded(alloc, &mut buffer, &message, max_size, block)?;
+    Vec::from_slice(alloc, &buffer[..writer.end.min(1024)]).map_err(|_| CopyError::Memory)
+}
+
 #[test]
 fn copies_are_compressed(rt: HostRuntime) -> Result<(), Fail> {
     let alloc = rt.alloc();
@@ -95,6 +111,35 @@ fn copies_end_with_edns(rt: HostRuntime) -> Result<(), Fail> {
     assert!(rt;
         matches!(
             copied(alloc, response.as_slice(), 28 + OPT_LEN),
+            Err(CopyError::Write(WriteError::NoRoom))
+        )
+    );
+    Ok(())
+}
+
+/// A copy is padded to a multiple of a block of at most 512 octets, once (RFC 7830, section 3), and not without room, or without EDNS.
+#[test]
+fn copies_are_padded(rt: HostRuntime) -> Result<(), Fail> {
+    let alloc = rt.alloc();
+    let response = hex::decode(alloc, RESPONSE)?;
+    let len = response.len();
+    for block in 0usize..1000 {
+        let copy = padded(alloc, response.as_slice(), 65_535, block)?;
+        let multiple = block.min(512).max(1);
+        assert!(rt; copy.len() % multiple == 0 || block == 0);
+        assert!(rt; copy.len() < len + 4 + multiple);
+        let message = MessageRef::read(copy.as_slice())?;
+        assert!(rt; message.edns()?.is_some());
+        let again = padded(alloc, copy.as_slice(), 65_535, 468)?;
+        assert!(rt; block == 0 || again.as_slice() == copy.as_slice());
+        assert!(rt;
+            padded(alloc, response.as_slice(), len, block)?.as_slice() == response.as_slice()
+        );
+        assert!(rt; padded(alloc, REFERRAL, 512, block)?.as_slice() == REFERRAL);
+    }
+    assert!(rt;
+        matches!(
+            padded(alloc, response.as_slice(), 28 + OPT_LEN, 128),
             Err(CopyError::Write(WriteError::NoRoom))
         )
     );

@@ -43,7 +43,7 @@ fn each_check_finds_its_records(rt: HostRuntime) -> Result<(), Fail> {
         "c.a. 60 TXT x",
         "d.a. 60 DNAME b.",
         "x.d.a. 60 TXT x",
-        "ds.a. 60 DS 1 13 2 aa",
+        "ds.a. 60 DS 1 13 1 0000000000000000000000000000000000000000",
         "m.a. 60 MX 5 c.a.",
         "n_s.a. 60 A 192.0.2.1",
         "ns.a. 60 A 192.0.2.1",
@@ -77,6 +77,40 @@ fn each_check_finds_its_records(rt: HostRuntime) -> Result<(), Fail> {
 }
 
 #[test]
+fn each_check_of_servers_and_data_finds_its_records(rt: HostRuntime) -> Result<(), Fail> {
+    let lines = [
+        "a. 60 SOA ns.a. h.a. 1 2 3 4 5",
+        "A. 60 SOA NS.a. h.A. 1 2 3 4 5",
+        "a. 60 NS ns.a.",
+        "a. 60 MX 1 192.0.2.9.",
+        "a. 60 MX 1 any.deep.w.a.",
+        "a. 60 MX 1 w.a.",
+        "c.a. 60 CAA \\# 6 0003612d6278",
+        "d.a. 60 DNAME b.",
+        "d.a. 60 NS ns.a.",
+        "ns.a. 60 A 192.0.2.1",
+        "s.a. 60 NS ns.t.a.",
+        "s.a. 60 DS 1 13 2 aa",
+        "t.a. 60 NS ns.t.a.",
+        "*.w.a. 60 A 192.0.2.2",
+        "*.x.a. 60 NS ns.a.",
+    ];
+    let wanted = [
+        of_record(Check::ServerIsAddress, 3, None),
+        of_record(Check::NoServerAddress, 5, None),
+        of_record(Check::CaaTag, 6, None),
+        of_record(Check::NsAndDname, 7, Some(8)),
+        of_record(Check::NoSiblingGlue, 10, None),
+        of_record(Check::DigestLength, 11, None),
+        of_record(Check::NoAddress, 12, None),
+        of_record(Check::WildcardNs, 14, None),
+    ];
+    let list = found(rt.alloc(), &lines)??;
+    assert_eq!(rt; list.as_slice(), wanted.as_slice());
+    Ok(())
+}
+
+#[test]
 fn a_zone_without_faults_has_no_findings(rt: HostRuntime) -> Result<(), Fail> {
     let lines = [
         "a. 60 SOA ns.a. h.a. 1 2 3 4 5",
@@ -90,7 +124,7 @@ fn a_zone_without_faults_has_no_findings(rt: HostRuntime) -> Result<(), Fail> {
         "c.a. 60 KEY 256 3 13 aaaa",
         "c.a. 60 NSEC d.a. CNAME RRSIG NSEC KEY",
         "sub.a. 60 NS ns.sub.a.",
-        "sub.a. 60 DS 1 13 2 aa",
+        "sub.a. 60 DS 1 13 1 0000000000000000000000000000000000000000",
         "ns.sub.a. 60 AAAA 2001:db8::1",
         "*.w.a. 60 A 192.0.2.1",
     ];

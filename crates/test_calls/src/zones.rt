@@ -92,7 +92,7 @@ fn a_fault_has_its_place(rt: HostRuntime) -> Result<(), Fail> {
     let ending = scan(b"a \"b\nc", &mut line)?;
     assert!(rt; ending == Ending::Wrong(WordRule::UnclosedQuote));
     let mut context = Context::new(Name::from_ascii(alloc, "example.")?);
-    let found = entry_of(alloc, &mut context, b"$GENERATE 1-9 a A 1.2.3.$");
+    let found = entry_of(alloc, &mut context, false, b"$GENERATE 1-9 a A 1.2.3.$");
     assert!(rt;
         matches!(
             found,
@@ -121,6 +121,33 @@ fn a_text_is_a_list_of_records(rt: HostRuntime) -> Result<(), Fail> {
     );
     assert_eq!(rt; records[2].body.ttl, 7200);
     assert_eq!(rt; records[2].body.wire.as_slice(), b"\x03a;b\x01c".as_slice());
+    Ok(())
+}
+
+/// The TTLs are those that named-checkzone and dnspython give this zone.
+#[test]
+fn an_soa_has_its_minimum_as_its_time_to_live(rt: HostRuntime) -> Result<(), Fail> {
+    let alloc = rt.alloc();
+    let text = b"@ SOA ns h 1 2 3 4 300\n@ NS ns\nns 60 A 192.0.2.1\nb A 192.0.2.2\n";
+    let records = read_records(alloc, Name::from_ascii(alloc, "example.")?, text)?;
+    assert_eq!(rt; records.len(), 4);
+    for (found, wanted) in records.iter().zip([300, 300, 60, 300].iter()) {
+        assert_eq!(rt; found.body.ttl, *wanted);
+    }
+    Ok(())
+}
+
+#[test]
+fn a_time_to_live_that_no_entry_states_is_the_callers(rt: HostRuntime) -> Result<(), Fail> {
+    let alloc = rt.alloc();
+    let mut context = Context::new(Name::from_ascii(alloc, "example.")?);
+    context.fallback_ttl = Some(9);
+    for (line, wanted) in [("a A 1.2.3.4", 9), ("b 7 A 1.2.3.4", 7), ("c A 1.2.3.4", 7)] {
+        match entry_of(alloc, &mut context, false, line.as_bytes())? {
+            Entry::Record(found) => assert_eq!(rt; found.ttl, wanted),
+            _ => return Err(Fail::from("a record")),
+        }
+    }
     Ok(())
 }
 

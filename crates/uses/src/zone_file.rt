@@ -1,6 +1,6 @@
 //! Reads and writes zone files, and concludes what their records are.
-ghost use Rattle.std.specs.Prelude.{◌≡◌, ◌⊎◌, ℕ, List, length, IfOk, IfErr, OnOk};
-ghost use Rattle.dns_names_wire.specs.Words.{AppendsShort, AppendsTtl, Context, FailsRecord, FailsZoneText, IsZoneText, OwnedRecord};
+ghost use Rattle.std.specs.Prelude.{◌≤◌, ◌≡◌, ◌⊎◌, ℕ, List, length, IfOk, IfErr, OnOk};
+ghost use Rattle.dns_names_wire.specs.Words.{AppendsShort, AppendsTtl, Context, FailsRecord, FailsZoneText, IsZoneText, OwnedRecord, max_zone_ttl};
 ghost use Rattle.uses.specs.ZoneFiles.{IsFileOf, of_type};
 
 use dns_names_wire::binary::BinDecodable;
@@ -40,13 +40,14 @@ fn count_in(records: &[OwnedRecord], record_type: RecordType) -> usize
 }
 
 /// Returns a zone file of the record that is at the start of these octets, after a `$TTL`. If the record's data are those of its class
-/// and type, this record is all that the file says.
+/// and type, and those of a zone, this record is all that the file says.
 pub fn write_file(
     alloc: Global,
     origin: &Name,
     ttl: u32,
     octets: &[u8],
 ) -> Result<Vec<u8>, DecodeError>
+    requires { ttl ≤ max_zone_ttl }
     ensures ok { IfOk result (λ text. IsFileOf origin.now octets.now text.items) }
     ensures err { IfErr result (λ e. FailsRecord (record { bytes = octets.now; index = 0 }) e ⊎ (e ≡ DecodeError.Memory)) }
 {

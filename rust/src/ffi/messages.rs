@@ -48,16 +48,17 @@ fn option_text_size(len: usize) -> usize {
     4 * len + 128
 }
 
-/// Replaces `packed` with a whole message, compressed and in at most `max_size` octets. Returns whether its TC bit is
-/// set.
-pub(crate) fn pack(message: &[u8], max_size: u16, packed: &mut Vec<u8>) -> Result<bool, Error> {
+/// Replaces `packed` with a whole message, compressed, in at most `max_size` octets, and padded to a multiple of `block`
+/// octets. Returns whether its TC bit is set.
+pub(crate) fn pack(message: &[u8], max_size: u16, block: u16, packed: &mut Vec<u8>) -> Result<bool, Error> {
     packed.clear();
     // The buffer is a limit too: what has no room in it is left out.
     packed.reserve(HEADER_SIZE.max(max_size.into()));
     let (mut result, room) = (Packed::default(), packed.spare_capacity_mut());
     let (first, size) = (room.as_mut_ptr().cast(), room.len());
+    let (octets, len) = (message.as_ptr(), message.len());
     // SAFETY: pointers with their lengths, see the module; and the room is not read.
-    let number = unsafe { dnw_message_pack(message.as_ptr(), message.len(), max_size, first, size, &mut result) };
+    let number = unsafe { dnw_message_pack(octets, len, max_size, block, first, size, &mut result) };
     outcome(number, ())?;
     // SAFETY: these bytes of the room were written.
     unsafe { packed.set_len(result.len) };

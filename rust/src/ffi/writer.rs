@@ -153,13 +153,13 @@ impl Writer {
     }
 }
 
-/// Replaces `message` with a message of the items of a list, with an id and flags, and padded to a multiple of `block` octets.
-/// Returns whether its TC bit is set.
+/// Replaces `message` with a message of the items of a list, with an id, flags and a response code, a reply or not, and padded to
+/// a multiple of `block` octets. Returns whether its TC bit is set.
 pub(crate) fn write_list(
     items: &[u8],
     max_size: u16,
-    (id, flags): (u16, u16),
-    block: u16,
+    (id, flags, code): (u16, u16, u16),
+    (is_reply, block): (bool, u16),
     message: &mut Vec<u8>,
 ) -> Result<bool, Error> {
     message.clear();
@@ -168,9 +168,10 @@ pub(crate) fn write_list(
     message.reserve(HEADER_SIZE + (items.len() + padding).min(max_size.into()));
     let (mut result, room) = (Packed::default(), message.spare_capacity_mut());
     let (first, size, max_size) = (room.as_mut_ptr().cast(), room.len(), usize::from(max_size));
+    let (list, len) = (items.as_ptr(), items.len());
     // SAFETY: pointers with their lengths, see the module; and the room is not read.
     let number =
-        unsafe { dnw_message_write(items.as_ptr(), items.len(), max_size, id, flags, block, first, size, &mut result) };
+        unsafe { dnw_message_write(list, len, max_size, id, flags, code, is_reply, block, first, size, &mut result) };
     outcome(number, ())?;
     // SAFETY: these bytes of the room were written.
     unsafe { message.set_len(result.len) };

@@ -23,9 +23,11 @@ pub(crate) struct Zone {
     column: usize,
     default_ttl: u32,
     last_ttl: u32,
+    fallback_ttl: u32,
     record_class: u16,
     has_default_ttl: u8,
     has_last_ttl: u8,
+    has_fallback_ttl: u8,
     origin_len: u8,
     owner_len: u8,
     origin: [u8; FORM_SIZE],
@@ -33,6 +35,11 @@ pub(crate) struct Zone {
 }
 
 impl Zone {
+    /// Sets the TTL of records for which the file states none.
+    pub(crate) fn set_fallback_ttl(&mut self, ttl: u32) {
+        (self.fallback_ttl, self.has_fallback_ttl) = (ttl, 1);
+    }
+
     /// Returns the offset of the next entry in the file, its line and its column.
     pub(crate) fn place(&self) -> (usize, usize, usize) {
         (self.offset, self.line.saturating_add(1), self.column.saturating_add(1))
@@ -65,9 +72,11 @@ pub(crate) fn begin_zone(origin: &[u8]) -> Result<Zone, Error> {
         column: 0,
         default_ttl: 0,
         last_ttl: 0,
+        fallback_ttl: 0,
         record_class: 0,
         has_default_ttl: 0,
         has_last_ttl: 0,
+        has_fallback_ttl: 0,
         origin_len: 0,
         owner_len: 0,
         origin: [0; FORM_SIZE],

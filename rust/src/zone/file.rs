@@ -84,6 +84,13 @@ impl ZoneFile {
         Ok(ZoneFile { files: vec![first], folder: None })
     }
 
+    /// Sets the TTL of records for which the files state none, as
+    /// [`ZoneReader::default_ttl`](crate::ZoneReader::default_ttl) does. It is called before the first record is taken.
+    pub fn default_ttl(self, ttl: u32) -> Self {
+        let first = |file: OpenFile| OpenFile { entries: file.entries.default_ttl(ttl), ..file };
+        ZoneFile { files: self.files.into_iter().map(first).collect(), ..self }
+    }
+
     /// Looks for all files of `$INCLUDE` in this folder, and not in that of the file that includes them. An empty path is the
     /// working directory.
     pub fn include_from(self, folder: impl Into<PathBuf>) -> Self {

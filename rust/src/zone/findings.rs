@@ -53,6 +53,13 @@ impl ZoneFinding {
             12 => "the owner is no name that hosts have",
             13 => "the name of a server is an alias",
             14 => "the name of a server has no address in the zone",
+            15 => "a DNAME record is beside NS records",
+            16 => "the owner of an NS record is a wildcard",
+            17 => "the digest does not have the length of its type",
+            18 => "the tag has other octets than letters and digits, or none",
+            19 => "the name of a server is the text of an address",
+            20 => "the name of a server, of another delegation, has no address in the zone",
+            21 => "the name of a host has no address in the zone",
             _ => "the zone is not right",
         }
     }

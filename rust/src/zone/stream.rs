@@ -54,6 +54,13 @@ impl<R> ZoneStream<R> {
         ZoneStream::with_entries(source, Entries::new(origin))
     }
 
+    /// Sets the TTL of records for which the file states none, as
+    /// [`ZoneReader::default_ttl`](crate::ZoneReader::default_ttl) does.
+    pub fn default_ttl(mut self, ttl: u32) -> Self {
+        self.entries.set_default_ttl(ttl);
+        self
+    }
+
     /// Returns an iterator over the entries of the file that the last item, an `$INCLUDE`, names, as
     /// [`ZoneReader::include`](crate::ZoneReader::include) does.
     pub fn include<S>(&self, source: S, origin: &Name) -> ZoneStream<S> {

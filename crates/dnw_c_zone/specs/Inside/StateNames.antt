@@ -53,9 +53,11 @@ with_state_numbers zone context at = record zone {
   column = at.column;
   default_ttl = or_zero context.default_ttl;
   last_ttl = or_zero context.last_ttl;
+  fallback_ttl = or_zero context.fallback_ttl;
   record_class = class_code context.class;
   has_default_ttl = has_number context.default_ttl;
   has_last_ttl = has_number context.last_ttl;
+  has_fallback_ttl = has_number context.fallback_ttl;
 }
 
 -- the state with another origin, and with another owner

@@ -6,7 +6,7 @@ use crate::zones::shown::{Form, Wanted};
 use dns_names_wire::binary::BinDecodable;
 use dns_names_wire::data_text::parse_entry;
 use dns_names_wire::dnssec::zone_digest;
-use dns_names_wire::field_text::parse_u8;
+use dns_names_wire::field_text::{parse_u8, parse_u32};
 use dns_names_wire::name::Name;
 use dns_names_wire::rdata::Record;
 use dns_names_wire::record::RecordRef;
@@ -14,9 +14,13 @@ use std::alloc::Global;
 use std::io::Read;
 use std::rt::Files;
 
+/// The greatest time to live (RFC 2181, section 8).
+const MAX_TTL: u32 = 0x7fff_ffff;
+
 /// The options of `dnw zone`.
-const OPTIONS: [Known; 5] = [
+const OPTIONS: [Known; 6] = [
     Known::Valued("--origin", "NAME"),
+    Known::Valued("--ttl", "SECONDS"),
     Known::Flag("--sort"),
     Known::Flag("--relative"),
     Known::Flag("--wire"),
@@ -33,7 +37,7 @@ pub(crate) fn zone<E: Files, I: Read, P: Watch>(
     watch: &mut P,
 ) -> Result<String, Refusal> {
     let given = Given::of(alloc, words, &OPTIONS)?;
-    let wanted = wanted_of(&given)?;
+    let wanted = wanted_of(alloc, &given)?;
     let [file] = given.plain.as_slice() else {
         return Err(given.wrong_count(alloc, &["FILE or -"]));
     };
@@ -45,7 +49,7 @@ pub(crate) fn zone<E: Files, I: Read, P: Watch>(
 }
 
 /// What the options ask for: of `--relative`, `--wire` and `--check` only one is there.
-fn wanted_of(given: &Given<'_>) -> Result<Wanted, Refusal> {
+fn wanted_of(alloc: Global, given: &Given<'_>) -> Result<Wanted, Refusal> {
     let form = match given.one_of(&["--relative", "--wire", "--check"])? {
         Some("--relative") => Form::Relative,
         Some("--wire") => Form::Wire,
@@ -55,7 +59,19 @@ fn wanted_of(given: &Given<'_>) -> Result<Wanted, Refusal> {
     Ok(Wanted {
         form,
         is_sorted: given.has("--sort"),
+        ttl: ttl_of(alloc, given)?,
     })
+}
+
+/// The time to live that `--ttl` gives to records for which the file states none.
+fn ttl_of(alloc: Global, given: &Given<'_>) -> Result<Option<u32>, Refusal> {
+    let Some(word) = given.value("--ttl") else {
+        return Ok(None);
+    };
+    match parse_u32(word) {
+        Ok(ttl) if ttl <= MAX_TTL => Ok(Some(ttl)),
+        _ => Err(Misuse::wrong(alloc, "a number of at most 2147483647", word)),
+    }
 }
 
 /// Returns the digest that a ZONEMD record of a zone has (RFC 8976), by the hash algorithm, in hexadecimal digits. The words are the
@@ -78,6 +94,7 @@ pub(crate) fn digest<E: Files, I: Read, P: Watch>(
     let wanted = Wanted {
         form: Form::Lines,
         is_sorted: false,
+        ttl: None,
     };
     let lines = listing(env, alloc, file, apex, wanted, zone, watch)?;
     digest_of(alloc, apex, lines.as_str(), algorithm)

@@ -122,6 +122,7 @@ fn context_of(context: &Context, include: &Include) -> Context {
         owner,
         default_ttl: context.default_ttl,
         last_ttl: context.last_ttl,
+        fallback_ttl: context.fallback_ttl,
         class: context.class,
     }
 }

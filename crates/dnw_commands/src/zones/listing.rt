@@ -22,7 +22,9 @@ pub(crate) fn listing<E: Files, P: Watch>(
 ) -> Result<String, Refusal> {
     let origin = Name::from_text(alloc, origin, None)?;
     let records = Listed::new(alloc, wanted, Context::new(origin.copied()));
-    let first = Source::new(String::from_str(alloc, file)?, text, Context::new(origin));
+    let mut context = Context::new(origin);
+    context.fallback_ttl = wanted.ttl;
+    let first = Source::new(String::from_str(alloc, file)?, text, context);
     let mut reading = Reading::new(alloc, records);
     reading.open(first)?;
     reading.read(env, alloc, watch)?;

@@ -29,6 +29,8 @@ pub(crate) struct Wanted {
     pub(crate) form: Form,
     /// Whether they are put in canonical order.
     pub(crate) is_sorted: bool,
+    /// The time to live of records for which the file states none.
+    pub(crate) ttl: Option<u32>,
 }
 
 /// The records of a zone, shown, or kept until all are there.

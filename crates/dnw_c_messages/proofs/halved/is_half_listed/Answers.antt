@@ -1,9 +1,18 @@
-use Rattle.std.proofs.Common.{◌-◌, ◌<◌, Bool, false, true, sym, ◌∙◌, subst, arith}
+use Rattle.std.proofs.Common.{◌-◌, ◌<◌, Bool, false, true, length, sym, ◌∙◌, ap, subst, arith}
 use Rattle.dnw_c_base.specs.Offsets.{at_offset}
-use Rattle.dnw_c_messages.specs.ListCalls.{IsHalfListed}
-use Rattle.dnw_c_messages.proofs.Comparing.{half_past, half_with, half_without, none_at_end, none_listed}
+use Rattle.dnw_c_messages.specs.ListCalls.{IsHalfListed, comes_last}
+use Rattle.dnw_c_messages.proofs.Comparing.{half_over, half_past, half_with, half_without, none_at_end, none_listed}
 use Rattle.dnw_c_messages.proofs.Items.{record_onward}
 use Rattle.dnw_c_messages.proofs.halved.is_half_listed.Goals as goal
+
+pub returns-then-count-eq0 : goal.returns-then-count-eq0
+returns-then-count-eq0 c =
+    half_over c.args.count (at_offset c.args.list.now c.args.start) c.args.item.now false (omega (arith, c.if-count-eq0.true))
+
+pub returns : goal.returns
+returns c =
+    c.there.invariant.0 c.there.half
+    (half_over c.there.more c.there.decoder c.args.item.now c.there.half (omega (arith, c.there-test.false)))
 
 pub returns-in_default : goal.returns-in_default
 returns-in_default c =
@@ -26,7 +35,8 @@ returns-in_default-read_record c =
 pub returns-then-are_the_same : goal.returns-then-are_the_same
 returns-then-are_the_same c =
     c.there.invariant.0 false
-    (half_with c.there.more c.there.decoder c.read_record.new.decoder c.in-Ok.record c.args.item.now c.there.half c.there-test.true c.in-Ok.ensures.ok
+    (half_with c.there.more c.octet_at-octet.result c.there.decoder c.read_record.new.decoder c.in-Ok.record c.args.item.now c.there.half
+    c.there-test.true (c.octet_at-octet.ensures, c.in-Ok.ensures.ok) (sym c.is_put_last.ensures ∙ c.if-is_put_last.false)
     (sym c.are_the_same.ensures ∙ c.if-are_the_same.true))
 
 pub there-preserved : goal.there-preserved
@@ -34,8 +44,29 @@ there-preserved c =
     let takes = c.in-Ok.ensures.ok in (
       λ half others.
           c.there.invariant.0 half
-          (half_past c.there.more c.there.decoder c.read_record.new.decoder c.in-Ok.record c.args.item.now c.there.half half c.there-test.true takes
+          (half_past c.there.more c.octet_at-octet.result c.there.decoder c.read_record.new.decoder c.in-Ok.record c.args.item.now c.there.half
+          c.there-test.true (c.octet_at-octet.ensures, takes) (sym c.is_put_last.ensures ∙ c.if-is_put_last.false) half
           (sym c.are_the_same.ensures ∙ c.if-are_the_same.false)
-          (subst (λ (before : Bool). IsHalfListed (c.there.more - 1) c.read_record.new.decoder c.args.item.now before half) c.or_halves-half.ensures others)),
+          (subst (λ (before : Bool). IsHalfListed c.args.item.now (c.there.more - 1) c.read_record.new.decoder before half) c.or_halves-half.ensures others)),
+      (record_onward takes).inside,
+    )
+
+pub there-smaller : goal.there-smaller
+there-smaller c =
+    let onward = record_onward c.in-Ok.ensures.ok in
+    omega (arith, onward.further, onward.inside, ap length onward.same)
+
+pub there-smaller-then-is_put_last : goal.there-smaller-then-is_put_last
+there-smaller-then-is_put_last c =
+    let onward = record_onward c.in-Ok.ensures.ok in
+    omega (arith, onward.further, onward.inside, ap length onward.same)
+
+pub there-preserved-then-is_put_last : goal.there-preserved-then-is_put_last
+there-preserved-then-is_put_last c =
+    let takes = c.in-Ok.ensures.ok in (
+      λ half others.
+          c.there.invariant.0 half
+          (comes_last c.there.more c.octet_at-octet.result c.in-Ok.record c.there.decoder c.read_record.new.decoder c.there.half half
+          (c.octet_at-octet.ensures, takes) (sym c.is_put_last.ensures ∙ c.if-is_put_last.true) others),
       (record_onward takes).inside,
     )

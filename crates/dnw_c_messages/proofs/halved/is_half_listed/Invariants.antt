@@ -1,12 +1,12 @@
-use Rattle.std.proofs.Common.{◌≤◌, Bool, false, length}
+use Rattle.std.proofs.Common.{◌-◌, ◌≤◌, Bool, false, length}
 use Rattle.dnw_c_base.specs.Offsets.{at_offset}
 use Rattle.dnw_c_messages.specs.ListCalls.{IsHalfListed}
 use Rattle.dnw_c_messages.proofs.halved.is_half_listed.Given as goal
 
 abbrev pub invariant-there : goal.invariant-there
 invariant-there l =
-    ((half : Bool) → IsHalfListed l.more l.decoder l.item l.half half → IsHalfListed l.count (at_offset l.list l.start) l.item false half)
+    ((half : Bool) → IsHalfListed l.item l.more l.decoder l.half half → IsHalfListed l.item l.count (at_offset l.list l.start) false half)
     × (l.decoder.index ≤ length l.decoder.bytes)
 
 abbrev pub decreases-there : goal.decreases-there
-decreases-there l = l.more
+decreases-there l = length l.decoder.bytes - l.decoder.index

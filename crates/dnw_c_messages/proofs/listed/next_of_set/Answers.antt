@@ -4,8 +4,7 @@ use Rattle.std.proofs.lemmas.Option.{slice_get_within}
 use Rattle.dnw_base.specs.Decoder.{Decoder, advanced}
 use Rattle.dnw_record.specs.Records.{RecordValue, TakesRecord}
 use Rattle.dnw_record.proofs.RecordReading.{TakesRecord_not_Fails, TakesRecord_unique}
-use Rattle.dnw_message_writer.specs.Copying.{AreOfOneSet}
-use Rattle.dnw_c_messages.specs.ListCalls.{BeginsWithOctet, IsNoneOfSet, LacksListed}
+use Rattle.dnw_c_messages.specs.ListCalls.{BeginsWithOctet, IsNoneOfSet, IsOfRun, LacksListed}
 use Rattle.dnw_c_messages.proofs.listed.next_of_set.Goals as goal
 
 -- nothing is left
@@ -27,10 +26,10 @@ of_none d octet first (error, fails) y later (begins, takes) same = TakesRecord_
 
 -- the record that is next is of another set
 of_another : (d : Decoder) (octet : ℕ) (first x : RecordValue) (after : Decoder) (is_same : Bool) → TakesRecord (advanced d 1) x after
-    → (AreOfOneSet first x → is_same ≡ true) → is_same ≡ false → IsNoneOfSet d octet first
+    → (IsOfRun octet first x → is_same ≡ true) → is_same ≡ false → IsNoneOfSet d octet first
 of_another d octet first x after is_same takes so isnt y later (begins, also) same =
     let one = TakesRecord_unique (advanced d 1) y x later after also takes in
-    absurd (true≢false (sym (so (subst (AreOfOneSet first) one.0 same)) ∙ isnt))
+    absurd (true≢false (sym (so (subst (IsOfRun octet first) one.0 same)) ∙ isnt))
 
 pub returns-then-left-eq0-clause-none : goal.returns-then-left-eq0-clause-none
 returns-then-left-eq0-clause-none c = (of_end c.args.decoder.now c.args.octet c.args.first.now c.len-left.result c.len-left.ensures c.if-left-eq0.true, refl)
@@ -43,9 +42,9 @@ pub returns-in-Err-clause-none : goal.returns-in-Err-clause-none
 returns-in-Err-clause-none c =
     (of_none c.args.decoder.now c.args.octet c.args.first.now (rw c.again-ahead.ensures at c.in-Err.ensures.err).0, refl)
 
-pub returns-then-not-is_of_set-clause-none : goal.returns-then-not-is_of_set-clause-none
-returns-then-not-is_of_set-clause-none c = (
-  of_another c.args.decoder.now c.args.octet c.args.first.now c.in-Ok.record c.read_record.new.decoder c.is_of_set.result
-      (rw c.again-ahead.ensures at c.in-Ok.ensures.ok) c.is_of_set.ensures.1 c.if-not-is_of_set.true,
+pub returns-then-not-is_of_run-clause-none : goal.returns-then-not-is_of_run-clause-none
+returns-then-not-is_of_run-clause-none c = (
+  of_another c.args.decoder.now c.args.octet c.args.first.now c.in-Ok.record c.read_record.new.decoder c.is_of_run.result
+      (rw c.again-ahead.ensures at c.in-Ok.ensures.ok) c.is_of_run.ensures.1 c.if-not-is_of_run.true,
   refl,
 )

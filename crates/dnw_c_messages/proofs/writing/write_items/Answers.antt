@@ -5,11 +5,11 @@ use Rattle.dnw_c_messages.proofs.Runs.{goes_onward, gone_none, gone_on}
 use Rattle.dnw_c_messages.proofs.writing.write_items.Goals as goal
 
 pub list-init : goal.list-init
-list-init c = gone_none c.args.items.now c.args.purpose.now c.args.block c.args.writer.now c.args.message.now c.new-decoder.result _ c.new-decoder.ensures refl
+list-init c = gone_none c.args.items.now c.args.bare c.args.purpose.now c.args.writer.now c.args.message.now c.new-decoder.result _ c.new-decoder.ensures refl
 
 pub list-smaller : goal.list-smaller
 list-smaller c =
-    let onward = goes_onward c.args.purpose.now c.args.block (progress c.list.decoder c.list.writer c.list.message c.list.left) (progress c.write_next.new.decoder c.write_next.new.writer c.write_next.new.message c.write_next.new.left) c.in_ok-write_next.ensures.ok in
+    let onward = goes_onward c.args.bare c.args.purpose.now (progress c.list.decoder c.list.writer c.list.message c.list.left) (progress c.write_next.new.decoder c.write_next.new.writer c.write_next.new.message c.write_next.new.left) c.in_ok-write_next.ensures.ok in
     omega (arith, onward.further, onward.inside, ap length onward.same, ap length c.list.invariant.same)
 
 pub list-preserved : goal.list-preserved

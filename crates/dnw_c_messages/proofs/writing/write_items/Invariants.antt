@@ -4,7 +4,7 @@ use Rattle.dnw_c_messages.proofs.Runs.{Gone}
 use Rattle.dnw_c_messages.proofs.writing.write_items.Given as goal
 
 abbrev pub invariant-list : goal.invariant-list
-invariant-list l = Gone l.items l.purpose l.block l.fn.writer l.fn.message (progress l.decoder l.writer l.message l.left)
+invariant-list l = Gone l.items l.bare l.purpose l.fn.writer l.fn.message (progress l.decoder l.writer l.message l.left)
 
 abbrev pub decreases-list : goal.decreases-list
 decreases-list l = length l.items - l.decoder.index

@@ -1,13 +1,16 @@
 -- A set is added, left out, or fails.
-use Rattle.std.proofs.Common.{◌≡◌, ◌≢◌, ◌∙◌, true, ap, inl, rules, sym}
+use Rattle.std.proofs.Common.{◌≡◌, ◌≢◌, ◌∙◌, true, ap, inl, rules, subst, sym}
 use Rattle.std.proofs.lemmas.Result.{on_ok_weaker}
 use Rattle.dnw_message_writer.specs.Needs.{is_uncut}
 use Rattle.dnw_message_writer.proofs.Opts.{if_err_as}
 use Rattle.dnw_c_base.specs.declared.failure.Failure.TheVariants.{MessageTooLong}
-use Rattle.dnw_c_messages.specs.ListCalls.{progress, set}
+use Rattle.dnw_c_messages.specs.ListCalls.{IsNoEnd, progress, set}
 use Rattle.dnw_c_messages.specs.declared.halved.There.{There}
 use Rattle.dnw_c_messages.proofs.Runs.{lacks_item, set_fails, set_left_out, taken_message}
 use Rattle.dnw_c_messages.proofs.writing.write_set.Goals as goal
+
+pub add_records-requires-clause-no_end : goal.add_records-requires-clause-no_end
+add_records-requires-clause-no_end c = subst (IsNoEnd c.args.octet) (sym c.again-ahead.ensures) c.requires.no_end
 
 pub returns-in-Ok-clause-ok : goal.returns-in-Ok-clause-ok
 returns-in-Ok-clause-ok c =
@@ -21,7 +24,7 @@ returns-else-is_uncut-clause-ok c =
     let same = taken_message c.args.section w.end m c.add_records.new.message c.take_back.new.message c.two_at-count.result c.add_records.auto.message
     c.in-Err-MessageTooLong.ensures.kept (rw (c.from.ensures, c.rank.ensures.value) at c.two_at-count.ensures) c.take_back.ensures.count in
     on_ok_weaker c.leave_out.result
-    (set_left_out c.args.purpose.now c.args.block c.args.octet c.args.section (progress c.args.decoder.now w m c.args.left.now) c.requires.octet c.requires.open
+    (set_left_out c.args.bare c.args.purpose.now c.args.octet c.args.section (progress c.args.decoder.now w m c.args.left.now) c.requires.octet c.requires.open
     c.leave_out.new.decoder c.in-Err-MessageTooLong.field-0 c.take_back.new.writer c.take_back.new.message c.leave_out.new.left c.args.there c.requires.there
     (rw c.again-ahead.ensures at c.in-Err-MessageTooLong.ensures.err) c.in-Err-MessageTooLong.field-0-is
     (sym c.is_uncut.ensures ∙ c.if-is_uncut.false) (c.take_back.ensures.state, same)) c.leave_out.ensures.ok
@@ -35,7 +38,7 @@ returns-else-is_uncut-clause-err c =
 pub returns-then-is_uncut-clause-err : goal.returns-then-is_uncut-clause-err
 returns-then-is_uncut-clause-err c =
     let uncut : is_uncut c.args.purpose.now ≡ true = sym c.is_uncut.ensures ∙ c.if-is_uncut.true in
-    set_fails c.args.purpose.now c.args.block c.args.octet c.args.section (progress c.args.decoder.now c.args.writer.now c.args.message.now c.args.left.now) c.requires.octet
+    set_fails c.args.bare c.args.purpose.now c.args.octet c.args.section (progress c.args.decoder.now c.args.writer.now c.args.message.now c.args.left.now) c.requires.octet
     c.requires.open MessageTooLong c.requires.begins
     (rw (c.again-ahead.ensures, c.in-Err-MessageTooLong.field-0-is) at c.in-Err-MessageTooLong.ensures.err) (λ long. uncut)
 
@@ -44,7 +47,7 @@ returns-in-Err c =
     let other : c.in-Err.failure ≢ MessageTooLong = search rules in
     record {
       ok = tt;
-      err = set_fails c.args.purpose.now c.args.block c.args.octet c.args.section (progress c.args.decoder.now c.args.writer.now c.args.message.now c.args.left.now)
+      err = set_fails c.args.bare c.args.purpose.now c.args.octet c.args.section (progress c.args.decoder.now c.args.writer.now c.args.message.now c.args.left.now)
           c.requires.octet c.requires.open c.in-Err.failure c.requires.begins (rw c.again-ahead.ensures at c.in-Err.ensures.err)
           (λ long. absurd (other long));
     }

@@ -15,4 +15,4 @@ returns-clause-is c =
     let origin = rw (c.if-not-fill_origin.false, c.front_of.ensures.is) at c.fill_origin.ensures in
     let owner = rw (c.if-not-fill_owner.false, c.front_of-owner.ensures.is) at c.fill_owner.ensures in
     let (name, is, same) = owner_name (owner_octets c.args.zone.now) c.fill_owner.new.owner owner in
-    (name, origin, is, same, c.time_of-context.ensures, c.time_of-context-2.ensures, c.from-context.ensures.gives)
+    (name, origin, is, same, c.time_of-context.ensures, c.time_of-context-2.ensures, c.time_of-context-3.ensures, c.from-context.ensures.gives)

@@ -9,4 +9,4 @@ returns-in-OldTypes c = rw c.in-OldTypes.is c.parse_bits-in-OldTypes.ensures
 
 pub returns-in_default : goal.returns-in_default
 returns-in_default c =
-    all_spell c.args.shown c.args.left.now c.args.out.now.items c.parse_joined.new.out.items c.parse_joined.result c.in_default.not-Ports c.in_default.not-OldTypes c.parse_joined.ensures
+    all_spell c.args.form c.args.shown c.args.left.now c.args.out.now.items c.parse_given.new.out.items c.parse_given.result c.in_default.not-Ports c.in_default.not-OldTypes c.parse_given.ensures

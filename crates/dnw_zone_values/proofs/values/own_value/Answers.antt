@@ -14,3 +14,6 @@ returns-in-Ipv4-clause-ok c = rw c.in-Ipv4.is c.parse_list-in-Ipv4.ensures
 
 pub returns-in-Ipv6-clause-ok : goal.returns-in-Ipv6-clause-ok
 returns-in-Ipv6-clause-ok c = rw c.in-Ipv6.is c.parse_list-in-Ipv6.ensures
+
+pub returns-in-Template-clause-ok : goal.returns-in-Template-clause-ok
+returns-in-Template-clause-ok c = rw c.in-Template.is c.template_of.ensures

@@ -1,5 +1,5 @@
-use Rattle.std.proofs.Common.{◌≤◌, [], subst, arith}
-use Rattle.dns_names_wire.specs.Words.{AppendsTtl, IsFirst, max_u32}
+use Rattle.std.proofs.Common.{[], subst, arith}
+use Rattle.dns_names_wire.specs.Words.{AppendsTtl, IsFirst}
 use Rattle.uses.proofs.zone_file.write_file.Goals as goal
 
 pub returns-clause-ok : goal.returns-clause-ok
@@ -9,8 +9,7 @@ returns-clause-ok c =
     let (between, first, with_ttl, with_record) = c.in_ok-put_lines.ensures in
     let begun = c.new-context.result in
     let is_first = subst (λ origin. IsFirst origin begun) c.copied.ensures c.new-context.ensures in
-    let small : c.args.ttl ≤ max_u32 = omega arith in
-    let after_ttl = law.ttls begun begun between [] first c.args.ttl [] (law.empty begun) small
+    let after_ttl = law.ttls begun begun between [] first c.args.ttl [] (law.empty begun) c.requires
     (subst (λ old. AppendsTtl begun c.args.ttl old first between) c.new-text.ensures.items with_ttl) in
     let (own, plain, same) = law.records begun between c.put_lines.new.context first c.put_lines.new.text.items c.args.octets.now 0 end c.in_ok-item.item [] after_ttl
     (λ i. let fits = c.type_inv.octets i in omega arith) at with_record in

@@ -26,7 +26,7 @@ returns-clause-ok c =
     let own : c.reply_flags-flags.result ≡ reply_flags (field_at request 2) flags (code % 16) =
     c.reply_flags-flags.ensures
     ∙ (ap (λ n. reply_flags n flags (c.reply_code-code.result % 16)) c.field_at.ensures ∙ ap (λ n. reply_flags (field_at request 2) flags (n % 16)) c.reply_code-code.ensures) in
-    let few : code ≤ most_code asked = omega (arith, c.if-code-most_code.false, c.reply_code-code.ensures, c.most_code.ensures) in (
+    let few : code ≤ most_code asked.has_edns = omega (arith, c.if-code-most_code.false, c.reply_code-code.ensures, c.most_code.ensures) in (
       c.is_request.ensures.0 c.if-not-is_request.false,
       c.asked_of-query.result.1,
       c.asked_of-query.ensures,
