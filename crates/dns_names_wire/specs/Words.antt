@@ -198,7 +198,7 @@ pub use Rattle.dnw_message_read.specs.Queries.{FailsQuery, TakesQuery}
 pub use Rattle.dnw_message_read.specs.Codes.{named_options, option_code, option_of_code}
 pub use Rattle.dnw_message_read.specs.OptionLaws.{OneOption, OptionsComeBack}
 pub use Rattle.dnw_message_read.specs.Reading.{IsName, NoName, OptionOutcome, ReadsAnyOption, ReadsChainOption, ReadsNameOption, ReadsOption, checked, cookie_of, error_of, expire_of, keepalive_of, subnet_of, version_of}
-pub use Rattle.dnw_message_read.specs.Texts.{address_text, count_text, error_name, error_text, extra_text, gap, is_shown_family, named_text, network_text, octets_text, option_text, padding_text, octet_digits, digits_text, period_text, printable_text, segment_at, shown_char, shown_text, unnamed_text}
+pub use Rattle.dnw_message_read.specs.Texts.{address_text, count_text, error_name, error_text, extra_text, gap, is_shown_family, named_text, network_text, octets_text, option_text, padding_text, octet_digits, digits_text, period_text, printable_text, segment_at, shown_char, shown_text, turns_text, unnamed_text}
 pub use Rattle.dnw_message_read.specs.Rules.{IsOptionFields, bits_after, code_of, has_no_name, may_be_server, may_be_version, most_bits, network_fault, octets_for, option_octets, value_fault}
 pub use Rattle.dnw_message_read.specs.Values.{OptionFields, VersionValue, seen_option, seen_version}
 -- Whole messages that are written.

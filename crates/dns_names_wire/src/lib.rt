@@ -238,6 +238,14 @@ pub mod record_type {
     pub use dnw_base::record_type::RecordType;
 }
 
+/// The codes of the types that rules name, as numbers.
+pub mod type_codes {
+    pub use dnw_base::type_codes::{
+        A, AAAA, ANY, AXFR, CNAME, DNAME, DS, IXFR, KEY, MX, NS, NSEC, NSEC3, NXT, OPT, PTR, RRSIG,
+        SIG, SOA, SRV, TSIG, ZONEMD,
+    };
+}
+
 /// Sets of record types, as NSEC, NSEC3 and CSYNC have them.
 pub mod record_type_set {
     pub use dnw_data::record_type_set::{
