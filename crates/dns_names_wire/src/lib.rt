@@ -182,7 +182,7 @@ pub mod message_writer {
     pub use dnw_message_writer::listed::DataError;
     pub use dnw_message_writer::needs::{Purpose, is_server};
     pub use dnw_message_writer::pieces::Piece;
-    pub use dnw_message_writer::reply::{Asked, ReplyError};
+    pub use dnw_message_writer::reply::{Asked, ReplyError, reply_code, takes_records};
     pub use dnw_message_writer::section::{Section, WriteError};
     pub use dnw_message_writer::set::{Data, cut_off};
     pub use dnw_message_writer::state::WriterState;
