@@ -187,6 +187,8 @@ pub use Rattle.dnw_message_read.specs.HeaderLaws.{HeaderFits, HeadersReadBack, H
 pub use Rattle.dnw_message_read.specs.Headers.{TakesHeader, flag, flags_of, header_of, header_size, header_wire, is_set, metadata_of}
 pub use Rattle.dnw_message_read.specs.OpCodes.{op_code, op_entry, op_of_code}
 pub use Rattle.dnw_message_read.specs.ResponseCodes.{response_code, response_entry, response_of_code}
+pub use Rattle.dnw_message_read.specs.declared.response_code.ResponseCode.{ResponseCode}
+pub use Rattle.dnw_message_read.specs.declared.response_code.ResponseCode.TheVariants.{FormErr, NoError, NotImp, NXDomain, Refused as RefusedCode, YXDomain}
 pub use Rattle.dnw_message_read.specs.Responses.{response_to}
 pub use Rattle.dnw_message_read.specs.Edns.{EdnsValue, FailsEdns, FailsOnlyOpt, FailsOpt, HasEdns, HasOpt, HasOptions, IsEdns, IsResponseCode, OptionValue}
 pub use Rattle.dnw_message_read.specs.Edns.{OptsAre, first_option, is_opt, opts_in, opts_outside}
@@ -198,7 +200,7 @@ pub use Rattle.dnw_message_read.specs.Queries.{FailsQuery, TakesQuery}
 pub use Rattle.dnw_message_read.specs.Codes.{named_options, option_code, option_of_code}
 pub use Rattle.dnw_message_read.specs.OptionLaws.{OneOption, OptionsComeBack}
 pub use Rattle.dnw_message_read.specs.Reading.{IsName, NoName, OptionOutcome, ReadsAnyOption, ReadsChainOption, ReadsNameOption, ReadsOption, checked, cookie_of, error_of, expire_of, keepalive_of, subnet_of, version_of}
-pub use Rattle.dnw_message_read.specs.Texts.{address_text, count_text, error_name, error_text, extra_text, gap, is_shown_family, named_text, network_text, octets_text, option_text, padding_text, octet_digits, digits_text, period_text, printable_text, segment_at, shown_char, shown_text, unnamed_text}
+pub use Rattle.dnw_message_read.specs.Texts.{address_text, count_text, error_name, error_text, extra_text, gap, is_shown_family, named_text, network_text, octets_text, option_text, padding_text, octet_digits, digits_text, period_text, printable_text, segment_at, shown_char, shown_text, turns_text, unnamed_text}
 pub use Rattle.dnw_message_read.specs.Rules.{IsOptionFields, bits_after, code_of, has_no_name, may_be_server, may_be_version, most_bits, network_fault, octets_for, option_octets, value_fault}
 pub use Rattle.dnw_message_read.specs.Values.{OptionFields, VersionValue, seen_option, seen_version}
 -- Whole messages that are written.
@@ -246,7 +248,7 @@ pub use Rattle.dnw_message_writer.specs.Copying.{FailsBody, FailsHeld, FailsQues
 pub use Rattle.dnw_message_writer.specs.Copying.{StandWhole, StopsInSet}
 pub use Rattle.dnw_message_writer.specs.Copying.{copied_form, covers_no_type, FailsToHold, held_in, HoldsFor, is_held, IsWholeSize, lacks_half_of, lacks_of, lacks_record_of, lacks_some, left_out_of, MayNotMiss, Misses, query_form, section_records, sets_of, signs_message, size_with, there_of}
 pub use Rattle.dnw_message_writer.specs.CopyLaws.{AreItemsOf, AreTheFirst, CopiesHold, IsCopiedQuestion, IsCopiedRecord, is_missing_of, AreNotHalved, HasWholeSets, IsAmong, SetsAreWhole}
-pub use Rattle.dnw_message_writer.specs.Data.{AreOfData}
+pub use Rattle.dnw_message_writer.specs.Data.{AreOfData, StartsNoName}
 pub use Rattle.dnw_message_writer.specs.Edns.{AddsOpt, AddsOptItem, FailsToAddOpt, FailsToAddOptItem, opt_data, opt_size, padding, ttl_of_edns}
 pub use Rattle.dnw_message_writer.specs.Hints.{slot_of}
 pub use Rattle.dnw_message_writer.specs.Items.{fields_of_record, IsNear, IsOwner, IsQuestion, IsRecord, ItemForm, ItemPast, QuestionGoesPast, RecordGoesPast}

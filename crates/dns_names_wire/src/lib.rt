@@ -182,7 +182,7 @@ pub mod message_writer {
     pub use dnw_message_writer::listed::DataError;
     pub use dnw_message_writer::needs::{Purpose, is_server};
     pub use dnw_message_writer::pieces::Piece;
-    pub use dnw_message_writer::reply::{Asked, ReplyError};
+    pub use dnw_message_writer::reply::{Asked, ReplyError, reply_code, takes_records};
     pub use dnw_message_writer::section::{Section, WriteError};
     pub use dnw_message_writer::set::{Data, cut_off};
     pub use dnw_message_writer::state::WriterState;
@@ -236,6 +236,14 @@ pub mod record {
 /// The types of records.
 pub mod record_type {
     pub use dnw_base::record_type::RecordType;
+}
+
+/// The codes of the types that rules name, as numbers.
+pub mod type_codes {
+    pub use dnw_base::type_codes::{
+        A, AAAA, ANY, AXFR, CNAME, DNAME, DS, IXFR, KEY, MX, NS, NSEC, NSEC3, NXT, OPT, PTR, RRSIG,
+        SIG, SOA, SRV, TSIG, ZONEMD,
+    };
 }
 
 /// Sets of record types, as NSEC, NSEC3 and CSYNC have them.

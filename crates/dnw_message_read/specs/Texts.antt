@@ -118,9 +118,14 @@ error_name code =
 abbrev pub named_text : List ℕ → List ℕ
 named_text name = if length name == 0 then [] else codes " (" ++ (name ++ codes ")")
 
--- a character: a dot is in the place of one for control
+-- Characters that end a line, or that turn the direction of text: those with the property Bidi_Control (Unicode, annex 9).
+abbrev pub turns_text : ℕ → Bool
+turns_text c =
+    (c == 0x61C) || ((nat_le 0x200E c && nat_le c 0x200F) || ((nat_le 0x2028 c && nat_le c 0x202E) || (nat_le 0x2066 c && nat_le c 0x2069)))
+
+-- a character: a dot is in the place of one for control, and of one that turns the text
 abbrev pub shown_char : ℕ → ℕ
-shown_char c = if is_control c then 46 else c
+shown_char c = if is_control c || turns_text c then 46 else c
 
 abbrev pub shown_text : List ℕ → List ℕ
 shown_text text = flat_map (λ c. encode_utf8 (shown_char c)) (chars text)

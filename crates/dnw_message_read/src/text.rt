@@ -6,7 +6,7 @@ ghost use Rattle.std.specs.Char.{digit_char};
 ghost use Rattle.std.specs.Fmt.{WritesOnOk};
 ghost use Rattle.dnw_base.specs.Names.{wire};
 ghost use Rattle.dnw_message_read.specs.Values.{expire, seen_option, seen_version, tcp_keepalive, zone_version};
-ghost use Rattle.dnw_message_read.specs.Texts.{address_text, count_text, error_name, error_text, extra_text, gap, is_shown_family, named_text, network_text, octets_text, option_text, padding_text, octet_digits, digits_text, period_text, printable_text, segment_at, shown_char, shown_text, unnamed_text};
+ghost use Rattle.dnw_message_read.specs.Texts.{address_text, count_text, error_name, error_text, extra_text, gap, is_shown_family, named_text, network_text, octets_text, option_text, padding_text, octet_digits, digits_text, period_text, printable_text, segment_at, shown_char, shown_text, turns_text, unnamed_text};
 
 use crate::option::{OptionData, ZoneVersion};
 use dnw_base::limits::MAX_NAME;
@@ -302,7 +302,7 @@ fn write_padding<W: fmt::Write>(f: &mut fmt::Formatter<W>, count: usize) -> fmt:
 }
 
 /// Writes an extended DNS error: its code, its name if it has one, and its text if there is any, in which a dot is in the
-/// place of each control character.
+/// place of each control character, and of each that turns the direction of text.
 fn write_error<W: fmt::Write>(f: &mut fmt::Formatter<W>, code: u16, text: &str) -> fmt::Result
     ensures { WritesOnOk W.Write.write_str_gives f.old result (error_text code text.now) f.new }
 {
@@ -333,7 +333,7 @@ fn write_extra<W: fmt::Write>(f: &mut fmt::Formatter<W>, text: &str) -> fmt::Res
     f.write_str(")")
 }
 
-/// Writes a text with a dot in the place of each control character.
+/// Writes a text with a dot in the place of each control character, and of each that turns the direction of text.
 fn write_chars<W: fmt::Write>(f: &mut fmt::Formatter<W>, text: &str) -> fmt::Result
     ensures { WritesOnOk W.Write.write_str_gives f.old result (shown_text text.now) f.new }
 {
@@ -343,11 +343,25 @@ fn write_chars<W: fmt::Write>(f: &mut fmt::Formatter<W>, text: &str) -> fmt::Res
     Ok(())
 }
 
-/// Returns a character, and a dot for one that is for control.
+/// Returns a character, and a dot for one that is for control or that turns the text.
 fn shown_char(c: char) -> char
     ensures { result ≡ shown_char c }
 {
-    if c.is_control() { '.' } else { c }
+    if c.is_control() || turns_text(c) {
+        '.'
+    } else {
+        c
+    }
+}
+
+/// Returns `true` for characters that end a line, or that turn the direction of text (Unicode, annex 9).
+fn turns_text(c: char) -> bool
+    ensures { result ≡ turns_text c }
+{
+    matches!(
+        c,
+        '\u{61C}' | '\u{200E}'..='\u{200F}' | '\u{2028}'..='\u{202E}' | '\u{2066}'..='\u{2069}'
+    )
 }
 
 /// The name of an extended DNS error (RFC 8914, section 4, and IANA's registry "Extended DNS Error Codes"), or an empty text.
