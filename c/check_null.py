@@ -64,6 +64,7 @@ SAMPLES = {
     "dnw_zone_digest": {"records": SOA + ADDRESS, "algorithm": 1},
     "dnw_writer_begin": {"max_size": 512},
     "dnw_writer_reply": {"max_size": 512, "request": QUERY},
+    "dnw_writer_reply_edns": {"asked": b"\1", "options": b"\0\3\0\0"},
     "dnw_writer_query": {"max_size": 512},
     "dnw_writer_record": {"section": 2, "record_type": 1, "record_class": 1, "data": b"\xc0\0\2\1"},
     "dnw_writer_set": {"section": 2, "record_type": 1, "record_class": 1, "set": b"\0\4\xc0\0\2\1"},

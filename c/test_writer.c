@@ -417,6 +417,59 @@ static void takes_codes(void)
     EXPECT(edns.response_code == 1 && !edns.takes_records);
 }
 
+static struct dnw_edns asked;
+
+static uint32_t reply_edns(uint16_t max_payload, const uint8_t *options, size_t len, uint16_t block)
+{
+    keep();
+    return done(dnw_writer_reply_edns(message, ROOM, &asked, max_payload, options, len, block, &writer));
+}
+
+/* A reply has OPT if its request has, and only then (RFC 6891, sections 6.1.1 and 7): of version 0, with DO as the request (RFC 3225,
+   section 3), without the other flags, and with the high bits of the response code (RFC 6891, section 6.1.3). */
+static void replies_by_edns(void)
+{
+#define ASKS_BY(version, flags) ASKS("\001\000", "\000\001\000\000\000\000\000\001") QUESTION SAYS(version, flags)
+#define OPT_OF(code, flags) "\000\000\051\004\320" code "\000" flags "\000\000\000"
+    static const struct {
+        const uint8_t *request;
+        size_t len;
+        uint16_t code;
+        const char *opt;
+    } rows[] = {
+        {BYTES(ASKS_BY("\000", "\000")), 0, OPT_OF("\000", "\000")},
+        {BYTES(ASKS_BY("\000", "\200")), 3, OPT_OF("\000", "\200")},
+        {BYTES(ASKS_BY("\000", "\177")), 0, OPT_OF("\000", "\000")},
+        {BYTES(ASKS_BY("\000", "\200")), 23, OPT_OF("\001", "\200")},
+        {BYTES(ASKS_BY("\000", "\000")), 4095, OPT_OF("\377", "\000")},
+        {BYTES(ASKS_BY("\001", "\200")), 0, OPT_OF("\001", "\200")},
+        {BYTES(ASKS("\001\000", "\000\002\000\000\000\000\000\001") QUESTION QUESTION SAYS("\000", "\200")), 0, OPT_OF("\000", "\200")},
+    };
+    for (size_t i = 0; i < sizeof rows / sizeof *rows; i++) {
+        for (uint16_t block = 0; block < 2; block++) {
+            EXPECT(reply_code(rows[i].request, rows[i].len, rows[i].code, &asked) == DNW_DONE && writer.reserved == 11);
+            size_t len = writer.len;
+            EXPECT(reply_edns(1232, BYTES(""), 128 * block) == DNW_DONE && writer.reserved == 0 && message[11] == 1);
+            EXPECT(memcmp(message + len, rows[i].opt, 9) == 0 && writer.len == (block ? 128 : len + 11));
+            EXPECT(reply_edns(1232, BYTES(""), 0) == DNW_DUPLICATE_EDNS);
+        }
+    }
+    /* a request without EDNS, or whose EDNS is not valid */
+    EXPECT(reply_code(BYTES(ASKS("\001\000", "\000\001\000\000\000\000\000\000") QUESTION), 15, &asked) == DNW_DONE);
+    EXPECT(reply_edns(1232, BYTES("\000\003\000\000"), 128) == DNW_DONE);
+    EXPECT(memcmp(before, message, ROOM) == 0 && memcmp(&writer, &was, sizeof was) == 0);
+    EXPECT(reply_code(BYTES(ASKS("\001\000", "\000\001\000\000\000\000\000\002") QUESTION SAYS("\000", "\000") SAYS("\000", "\000")), 0, &asked) == DNW_DONE);
+    EXPECT(reply_edns(1232, BYTES(""), 0) == DNW_DONE && writer.len == 33 && message[3] == 1);
+    /* a size of at least 512, options, and no room for these */
+    EXPECT(reply(BYTES(ASKS_BY("\000", "\000")), 33 + 11 + 4, 0, &asked) == DNW_DONE);
+    EXPECT(reply_edns(511, BYTES("\000\003\000\001"), 0) == DNW_CUT_OPTION);
+    EXPECT(reply_edns(511, BYTES("\000\003\000\001\007"), 0) == DNW_MESSAGE_TOO_LONG && writer.reserved == 11);
+    EXPECT(reply_edns(511, BYTES("\000\003\000\000"), 128) == DNW_DONE && writer.len == 33 + 11 + 4);
+    EXPECT(memcmp(message + 33, "\000\000\051\002\000\000\000\000\000\000\004\000\003\000\000", 15) == 0);
+    EXPECT(reply(BYTES(ASKS_BY("\000", "\000")), ROOM, 0, &asked) == DNW_DONE && last(0, BYTES("\003key\000")) == DNW_DONE);
+    EXPECT(reply_edns(1232, BYTES(""), 0) == DNW_BAD_ITEM);
+}
+
 /* Records of a list are added as far as there is room, and the call says where to go on. */
 static void fills(void)
 {
@@ -790,6 +843,24 @@ static void never_cuts_requests(void)
             EXPECT(result.len == 33 && result.truncated);
         }
     }
+    /* half an UPDATE is another UPDATE: a prerequisite and 30 additions */
+    static uint8_t update[1024];
+    size_t len = sizeof ASKED - 1;
+    memcpy(update, ASKED, len);
+    for (uint8_t i = 0; i < 31; i++, len += 6 + sizeof ADDRESS - 1) {
+        const uint8_t item[] = {i == 0 ? DNW_LIST_ANSWER : DNW_LIST_AUTHORITY, 3, 'h', 'a', i, 0};
+        memcpy(update + len, item, 6);
+        memcpy(update + len + 6, ADDRESS, sizeof ADDRESS - 1);
+    }
+    static uint8_t whole[1024], again[1024];
+    EXPECT(dnw_message_write(update, len, sizeof whole, 7, 0x2800, 0, false, 0, whole, sizeof whole, &result) == DNW_DONE);
+    size_t whole_len = result.len;
+    EXPECT(whole_len > 512 && whole[9] == 30 && !result.truncated);
+    const size_t sizes[] = {33, 100, 512, whole_len - 1};
+    for (size_t i = 0; i < 4; i++) {
+        EXPECT(dnw_message_write(update, len, sizes[i], 7, 0x2800, 0, false, 0, again, sizeof again, &result) == DNW_MESSAGE_TOO_LONG);
+        EXPECT(dnw_message_pack(whole, whole_len, (uint16_t)sizes[i], 0, again, sizeof again, &result) == DNW_MESSAGE_TOO_LONG);
+    }
 #define TRANSFER(type) BYTES("\000" ROOT "\000" type "\000\001" RR("\001", ROOT) RR("\003", ROOT))
     for (size_t most = 12; most < 17 + 15 + 15; most++) {
         EXPECT(list(TRANSFER("\374"), most, ROOM) == DNW_MESSAGE_TOO_LONG);
@@ -917,6 +988,7 @@ int main(void)
     keeps_one_opt();
     begins_replies();
     takes_codes();
+    replies_by_edns();
     fills();
     begins_queries();
     takes_any_writer();

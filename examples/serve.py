@@ -45,11 +45,9 @@ def respond(table: List[Record], octets: bytes, most: Optional[int]) -> bytes:
     if request.header.is_response:
         return b""
     try:
-        asked, accepted = request.edns, min(request.max_payload, PAYLOAD)
+        accepted = min(request.max_payload, PAYLOAD)
     except DnsError:
-        return request.reply().to_wire()
-    if asked is not None and asked.version > 0:
-        return request.reply().to_wire()
+        accepted = 512
     return reply_to(table, request).to_wire(most or accepted)
 
 

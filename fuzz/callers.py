@@ -28,6 +28,7 @@ WITHOUT_MODEL = {
     "dnw_writer_fill": "c/test_writer.c",
     "dnw_writer_query": "c/test_writer.c",
     "dnw_writer_reply": "c/test_writer.c",
+    "dnw_writer_reply_edns": "c/test_writer.c",
     "dnw_zone_check": "c/test_zone.c",
     "dnw_zone_put_origin": "c/test_zone.c",
     "dnw_zone_put_record": "c/test_zone.c",

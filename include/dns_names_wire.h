@@ -940,7 +940,7 @@ uint32_t dnw_writer_begin(uint8_t *message, size_t message_size, size_t max_size
 
 /* Begins the reply to a request: its id, operation code, RD and CD, QR, and its question, with AA, RA and AD of `flags`,
    and a response code. It stores in `edns` what the reply needs: `is_present` is whether it needs an OPT record, for which
-   DNW_EDNS_SIZE octets are held back then (dnw_writer_edns gives them back); `dnssec_ok` and `max_payload` are those of the
+   DNW_EDNS_SIZE octets are held back then (dnw_writer_reply_edns adds it); `dnssec_ok` and `max_payload` are those of the
    request, 512 without EDNS; the others are 0. Its `response_code` is that of the reply, whose high bits are
    `response_code >> 4`: mostly the given one; BADVERS (16) if the version of EDNS is above 0 (RFC 6891, section 6.1.3);
    and FORMERR (1) if the request is not complete, its EDNS is not valid (RFC 6891, section 7), or it has more than one
@@ -957,6 +957,14 @@ uint32_t dnw_writer_begin(uint8_t *message, size_t message_size, size_t max_size
 uint32_t dnw_writer_reply(uint8_t *message, size_t message_size, size_t max_size, const uint8_t *request,
                           size_t request_len, uint16_t flags, uint16_t response_code, struct dnw_writer *writer,
                           struct dnw_edns *edns);
+
+/* Adds the OPT record of a reply that dnw_writer_reply began, if its request has one, and only then (RFC 6891, sections 6.1.1 and
+   7). `asked` is what that stored. The record has DO if the request has it (RFC 3225, section 3), the high bits of the response code,
+   and the version 0; the caller gives the size of the largest message that it accepts, the options and `block`, as for
+   dnw_writer_edns. The DNW_EDNS_SIZE octets that are held back for it are given back. It adds nothing and returns 0 if the request
+   has no EDNS. It fails as dnw_writer_edns. */
+uint32_t dnw_writer_reply_edns(uint8_t *message, size_t message_size, const struct dnw_edns *asked, uint16_t max_payload,
+                               const uint8_t *options, size_t options_len, uint16_t block, struct dnw_writer *writer);
 
 /* Begins a query: its id, RD if `recursion_desired` is set, and a question, the wire form of a name, a type and a class. If
    `max_payload` is not 0, an OPT record says that the sender accepts messages of so many octets, or of 512 if it is less
@@ -982,10 +990,10 @@ uint32_t dnw_writer_record(uint8_t *message, size_t message_size, uint32_t secti
                            struct dnw_writer *writer);
 
 /* Adds the records of a set, or none of them (RFC 2181, section 5). `set` has for each record two octets of length, and
-   the data as for dnw_writer_record. If the set has no room and `is_required` is set, TC is set in the header (RFC 2181,
+   the data as for dnw_writer_record. If the set has no room and `required` is set, TC is set in the header (RFC 2181,
    section 9): for answers, and for what a reply cannot do without. It fails with DNW_BAD_ITEM also if the set ends within a
    record, and otherwise as dnw_writer_record, for the first record that fails. */
-uint32_t dnw_writer_set(uint8_t *message, size_t message_size, uint32_t section, bool is_required, const uint8_t *owner,
+uint32_t dnw_writer_set(uint8_t *message, size_t message_size, uint32_t section, bool required, const uint8_t *owner,
                         size_t owner_len, uint16_t record_type, uint16_t record_class, uint32_t ttl, const uint8_t *set,
                         size_t set_len, struct dnw_writer *writer);
 

@@ -150,7 +150,7 @@ static void respond(const uint8_t *query, size_t len, uint16_t flags, const stru
     must(dnw_writer_reply(out, sizeof out, sizeof out, query, len, flags, flags & 15, &writer, &edns));
     for (const struct given *it = records; it < records + count; it++)
         must(dnw_writer_record(out, sizeof out, it->section, it->owner, it->owner_len, it->type, 1, 3600, it->data, it->data_len, &writer));
-    must(dnw_writer_edns(out, sizeof out, DNW_EDNS_SIZE, 1232, 0, 0, edns.dnssec_ok, NULL, 0, 0, &writer));
+    must(dnw_writer_reply_edns(out, sizeof out, &edns, 1232, NULL, 0, 0, &writer));
     sum += writer.len;
 }
 

@@ -220,6 +220,7 @@ _FUNCTIONS = {
         *_WRITTEN, c_size_t, c_uint16, c_bool, *_READ, c_uint16, c_uint16, c_uint16, POINTER(Writer),
     ),  # fmt: skip
     "dnw_writer_reply": (*_WRITTEN, c_size_t, *_READ, c_uint16, c_uint16, POINTER(Writer), POINTER(Edns)),
+    "dnw_writer_reply_edns": (*_WRITTEN, POINTER(Edns), c_uint16, *_READ, c_uint16, POINTER(Writer)),
     "dnw_writer_question": (*_WRITTEN, *_READ, c_uint16, c_uint16, POINTER(Writer)),
     "dnw_writer_record": (*_WRITTEN, c_uint32, *_READ, c_uint16, c_uint16, c_uint32, *_READ, POINTER(Writer)),
     "dnw_writer_set": (*_WRITTEN, c_uint32, c_bool, *_READ, c_uint16, c_uint16, c_uint32, *_READ, POINTER(Writer)),

@@ -1,7 +1,7 @@
 """Whole messages, which are checked once."""
 
 import struct
-from ctypes import addressof, byref, c_bool
+from ctypes import Array, addressof, byref, c_bool, c_char
 from functools import lru_cache
 from typing import TYPE_CHECKING, Any, Callable, Dict, Iterable, List, Optional, Tuple, Type
 
@@ -35,8 +35,6 @@ from ._values import Value, dataclass
 
 # The type and the class of a question.
 _CODES = struct.Struct("!HH")
-# An OPT record before its data: the root, the type, the size, the high bits of the response code, the version, the
-# flags, and the number of octets of options.
 # The octets of an OPT record without options.
 _OPT_SIZE = 11
 # The id, the flags and the codes, and the counts of a header; and the first two of these.
@@ -52,8 +50,6 @@ _message_write = by_address("dnw_message_write", 11)
 _writer_query = by_address("dnw_writer_query", 11)
 _writer_reply = by_address("dnw_writer_reply", 9)
 _MOST_POINTERS = 2**64 - 1
-# A message is padded to a multiple of at most so many octets, by an option that has so many before its own.
-_MOST_BLOCK, _OPTION_SIZE = 512, 4
 
 
 @dataclass(frozen=True)
@@ -164,21 +160,44 @@ class Edns(Value):
 
     def _record(self, code: int) -> bytes:
         """Returns the OPT record (RFC 6891, section 6.1.2), with the high bits of a response code."""
+        version = _checks.number("version", self.version, 255)
+        return _opt_record(*self._said(), code >> 4, version, bool(self.dnssec_ok))
+
+    def _reply_record(self, asked: ReadEdns) -> bytes:
+        """Returns the OPT record of a reply to a request that asks this, or no octets."""
+        return _opt_of_reply(*self._said(), asked.is_present, asked.dnssec_ok, asked.response_code)
+
+    def _said(self) -> Tuple[int, bytes]:
+        """Returns the size of messages, and the octets of the options."""
         options = put_pairs(self.options)
         if len(options) > _MOST:
             raise DataTooLong()
-        payload, version = _checks.number("max_payload", self.max_payload, _MOST), _checks.number("version", self.version, 255)
-        return _opt_record(payload, code >> 4, version, bool(self.dnssec_ok), options)
+        return _checks.number("max_payload", self.max_payload, _MOST), options
 
 
 @lru_cache(maxsize=256)
-def _opt_record(payload: int, high: int, version: int, dnssec_ok: bool, options: bytes) -> bytes:
+def _opt_record(payload: int, options: bytes, high: int, version: int, dnssec_ok: bool) -> bytes:
     """Returns the OPT record that the library writes into a message without other items."""
-    room, writer = room_of(_HEADER_SIZE + _OPT_SIZE + len(options)), Writer()
-    size, state = len(room), byref(writer)
-    check(library.dnw_writer_begin(room, size, size, 0, 0, state))
-    check(library.dnw_writer_edns(room, size, 0, payload, high, version, dnssec_ok, options, len(options), 0, state))
+    room, writer = _begun(options)
+    last = options, len(options), 0, byref(writer)
+    check(library.dnw_writer_edns(room, len(room), 0, payload, high, version, dnssec_ok, *last))
     return taken(room, writer.len)[_HEADER_SIZE:]
+
+
+@lru_cache(maxsize=256)
+def _opt_of_reply(payload: int, options: bytes, is_present: bool, dnssec_ok: bool, code: int) -> bytes:
+    """Returns the OPT record that the library writes into a reply without other items, or no octets."""
+    room, writer = _begun(options)
+    asked = ReadEdns(is_present=is_present, dnssec_ok=dnssec_ok, response_code=code)
+    check(library.dnw_writer_reply_edns(room, len(room), byref(asked), payload, options, len(options), 0, byref(writer)))
+    return taken(room, writer.len)[_HEADER_SIZE:]
+
+
+def _begun(options: bytes) -> "Tuple[Array[c_char], Writer]":
+    """Returns a message without items, with room for an OPT record with these options."""
+    room, writer = room_of(_HEADER_SIZE + _OPT_SIZE + len(options)), Writer()
+    check(library.dnw_writer_begin(room, len(room), len(room), 0, 0, byref(writer)))
+    return room, writer
 
 
 class Message:
@@ -339,8 +358,8 @@ class Message:
     ) -> "Message":
         """Makes a reply to this request. It repeats the id, the operation code, RD, CD and the question of the request
         (RFC 1035, section 4.1.1; RFC 4035, section 3.2.2). It has EDNS if the request has, and only then (RFC 6891, sections
-        6.1.1 and 7): `edns`, or the same DO, version 0, and 1232 octets as the largest message that is accepted. `required`
-        is as in `build`.
+        6.1.1 and 7): with the same DO (RFC 3225, section 3), version 0, and 1232 octets as the largest message that is accepted,
+        or the size and the options of `edns`. `required` is as in `build`.
 
         The default response code is NOERROR. It is always BADVERS if the version of the request's EDNS is above 0 (RFC
         6891, section 6.1.3), and FORMERR if that is not valid (section 7; the reply then has no EDNS) or the request has more
@@ -370,13 +389,12 @@ class Message:
         if failure:
             check(failure)
         head: Any = room.octets[: room.writer.len]
-        asked, opt = room.edns, None
+        asked = room.edns
         takes_records, code = asked.takes_records, asked.response_code
-        if asked.is_present:
-            opt = (edns_of_reply(asked.dnssec_ok) if edns is None else edns)._record(code)
+        opt = (OF_REPLY if edns is None else edns)._reply_record(asked)
         give_back(room)
         made = _new_made(_Made)
-        made._head, made._code, made._is_reply, made._opt = _head_of(head), code, True, opt
+        made._head, made._code, made._is_reply, made._opt = _head_of(head), code, True, opt or None
         made._asked = b"\0" + head[12:] if len(head) > 12 else b""
         made._answers, made._authorities = tuple(answers), tuple(authorities)
         made._required, made._others = tuple(required), tuple(additionals)
@@ -670,10 +688,9 @@ class _Made(Message):
         except IndexError:
             room = Room()
         octets, place, has = room.octets, room.octets_at, ROOM_SIZE
-        # An item takes no more octets in a message than in the list, but for a header and padding.
-        most = size + _OPTION_SIZE + min(block, _MOST_BLOCK) if block else size
-        if most > _MOST_ITEMS < max_size:
-            octets = room_of(min(_HEADER_SIZE + most, max_size))
+        # An item takes no more octets in a message than in the list, but for padding.
+        if (block or size > _MOST_ITEMS) and max_size > ROOM_SIZE:
+            octets = room_of(max_size)
             place, has = addressof(octets), len(octets)
         failure = _message_write(items, size, max_size, *self._head, self._code, self._is_reply, block, place, has, room.packed_at)
         if failure:
@@ -715,11 +732,6 @@ def own_message(what: str, message: object) -> Message:
     if type(message) is not _Read and type(message) is not _Made:
         raise _checks.wrong_type(what, "a Message is", message)
     return message
-
-
-def edns_of_reply(dnssec_ok: bool) -> Edns:
-    """Returns the EDNS fields of a reply to a request with the same DO."""
-    return _WITH_DO if dnssec_ok else _WITHOUT_DO
 
 
 _new_read: Callable[[Type[_Read]], _Read] = object.__new__
@@ -785,4 +797,5 @@ def _fields_of(flags: int) -> Dict[str, Any]:
     return fields
 
 
-_WITH_DO, _WITHOUT_DO = Edns(dnssec_ok=True), Edns()
+# What a reply says by EDNS, if the caller says nothing else.
+OF_REPLY = Edns()

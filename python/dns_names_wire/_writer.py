@@ -1,14 +1,15 @@
 """Messages written item by item."""
 
+from contextlib import suppress
 from ctypes import byref, c_char, c_size_t
 from typing import Iterable, Iterator, NoReturn, Optional, Tuple
 
 from . import _checks
 from ._data import put_pairs
-from ._errors import check
+from ._errors import BadItem, DuplicateEdns, check
 from ._library import Writer, library
 from ._library import Edns as ReadEdns
-from ._messages import ANSWER_ITEM, Edns, Header, Message, Question, edns_of_reply, own_message
+from ._messages import ANSWER_ITEM, OF_REPLY, Edns, Header, Message, Question, own_message
 from ._names import wire_of
 from ._records import Record, own_record
 from ._sets import RRset
@@ -58,8 +59,7 @@ class MessageWriter:
         if not isinstance(self._buffer, bytearray):
             raise _checks.wrong_type("buffer", "a bytearray is", buffer)
         self._room = (c_char * len(self._buffer)).from_buffer(self._buffer)
-        self._state, self._owed_edns = Writer(), None  # type: Writer, Optional[Edns]
-        self._code, self._takes_records = 0, True
+        self._state, self._asked = Writer(), None  # type: Writer, Optional[ReadEdns]
 
     @classmethod
     def query(
@@ -105,7 +105,7 @@ class MessageWriter:
         response_code: int = 0,
     ) -> "MessageWriter":
         """Begins the reply to a request, as `Message.reply` makes it, with the question of the request. If the request has
-        EDNS, room is held back for the OPT record, which `edns` or `finish` writes.
+        EDNS, room is held back for the OPT record, which `edns` writes, or else `last` or `finish`.
 
         >>> from dns_names_wire import make_query
         >>> MessageWriter.reply(make_query("a.", "NS", id=7)).finish().hex()
@@ -120,8 +120,7 @@ class MessageWriter:
         check(library.dnw_writer_reply(
             room, len(room), most, wire, len(wire), flags, code, byref(writer._state), byref(asked)
         ))  # fmt: skip
-        writer._owed_edns = edns_of_reply(asked.dnssec_ok) if asked.is_present else None
-        writer._code, writer._takes_records = asked.response_code, asked.takes_records
+        writer._asked = asked
         return writer
 
     def __reduce__(self) -> NoReturn:
@@ -164,18 +163,18 @@ class MessageWriter:
         """Writes a record of the Additional section, as `answer`."""
         self._record(ADDITIONAL, record)
 
-    def answer_set(self, records: Iterable[Record], *, is_required: bool = True) -> None:
+    def answer_set(self, records: Iterable[Record], *, required: bool = True) -> None:
         """Writes the records of a set to the Answer section, or none of them (RFC 2181, section 5). If there is no room and
         the receiver needs the set, TC is set (section 9). Raises `ValueError` as `RRset`, and otherwise as `answer`."""
-        self._set_of(ANSWER, records, is_required)
+        self._set_of(ANSWER, records, required)
 
-    def authority_set(self, records: Iterable[Record], *, is_required: bool = True) -> None:
+    def authority_set(self, records: Iterable[Record], *, required: bool = True) -> None:
         """Writes a set to the Authority section, as `answer_set`."""
-        self._set_of(AUTHORITY, records, is_required)
+        self._set_of(AUTHORITY, records, required)
 
-    def additional_set(self, records: Iterable[Record], *, is_required: bool = False) -> None:
+    def additional_set(self, records: Iterable[Record], *, required: bool = False) -> None:
         """Writes a set to the Additional section, as `answer_set`. Glue is required (RFC 9471)."""
-        self._set_of(ADDITIONAL, records, is_required)
+        self._set_of(ADDITIONAL, records, required)
 
     def _record(self, section: int, record: Record) -> None:
         owner, data = own_record("record", record).owner.wire, record._whole_data()
@@ -184,38 +183,39 @@ class MessageWriter:
             self._room, len(self._room), section, owner, len(owner), *codes, data, len(data), byref(self._state)
         ))  # fmt: skip
 
-    def _set_of(self, section: int, records: Iterable[Record], is_required: bool) -> None:
+    def _set_of(self, section: int, records: Iterable[Record], required: bool) -> None:
         found = records if type(records) is RRset else RRset(records)
         owner, ttl = found.owner.wire, found.ttl
         octets = b"".join([part for record in found for part in _counted(record._whole_data())])
         check(library.dnw_writer_set(
-            self._room, len(self._room), section, bool(is_required), owner, len(owner), found.record_type,
+            self._room, len(self._room), section, bool(required), owner, len(owner), found.record_type,
             found.record_class, ttl, octets, len(octets), byref(self._state),
         ))  # fmt: skip
 
     def edns(self, edns: Optional[Edns] = None, *, block: int = 0) -> None:
-        """Writes the OPT record: of a reply, into the octets that are held back for it; the default is that of
-        `Message.reply`. If `block` is not 0, the message is padded to a multiple of so many octets (RFC 7830; RFC 8467).
-        Raises `DuplicateEdns` if there is one already."""
-        own = edns or self._owed_edns or Edns()
-        options = put_pairs(own.options)
-        numbers = (
-            _checks.number("max_payload", own.max_payload, _MOST), self._code >> 4,
-            _checks.number("version", own.version, 255), bool(own.dnssec_ok),
-        )  # fmt: skip
-        held = 0 if self._owed_edns is None else 11
-        check(library.dnw_writer_edns(
-            self._room, len(self._room), held, *numbers, options, len(options), _checks.number("block", block, _MOST),
-            byref(self._state),
-        ))  # fmt: skip
-        self._owed_edns = None
+        """Writes the OPT record: of a reply as `Message.reply` has it, if its request has EDNS. If `block` is not 0, the message
+        is padded to a multiple of so many octets (RFC 7830; RFC 8467). Raises `DuplicateEdns` if there is one already."""
+        own = edns or OF_REPLY
+        options, payload = put_pairs(own.options), _checks.number("max_payload", own.max_payload, _MOST)
+        last = options, len(options), _checks.number("block", block, _MOST), byref(self._state)
+        room, size = self._room, len(self._room)
+        if self._asked is not None:
+            check(library.dnw_writer_reply_edns(room, size, byref(self._asked), payload, *last))
+        else:
+            version, dnssec_ok = _checks.number("version", own.version, 255), bool(own.dnssec_ok)
+            check(library.dnw_writer_edns(room, size, 0, payload, 0, version, dnssec_ok, *last))
+
+    def _add_owed_edns(self) -> None:
+        """Writes the OPT record of a reply, unless it is there."""
+        if self._asked is not None:
+            with suppress(DuplicateEdns, BadItem):
+                self.edns()
 
     def last(self, record: Record, *, held: int = 0) -> None:
         """Writes a record after which no item may follow, as TSIG (RFC 8945, section 5.1), and gives back octets that are
         held back for it."""
         owner, data = own_record("record", record).owner.wire, record._whole_data()
-        if self._owed_edns is not None:
-            self.edns()
+        self._add_owed_edns()
         codes = record.record_type, record.record_class, record.ttl
         check(library.dnw_writer_last(
             self._room, len(self._room), _checks.number("held", held, _MOST), owner, len(owner), *codes, data, len(data),
@@ -224,8 +224,7 @@ class MessageWriter:
 
     def finish(self) -> bytes:
         """Returns the message. A reply gets its OPT record first, if it has none and the request has EDNS."""
-        if self._owed_edns is not None:
-            self.edns()
+        self._add_owed_edns()
         return bytes(self._buffer[: self._state.len])
 
 
@@ -244,7 +243,7 @@ def transfer(request: Message, records: Iterable[Record], max_size: int = _MOST)
     items, at = b"".join([part for record in records for part in (ANSWER_ITEM, record.to_wire())]), c_size_t()
     while True:
         writer = MessageWriter.reply(request, max_size, authoritative=True)
-        if not writer._takes_records:
+        if writer._asked is not None and not writer._asked.takes_records:
             at.value = len(items)
         else:
             room, state = writer._room, byref(writer._state)

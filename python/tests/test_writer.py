@@ -99,7 +99,7 @@ class Stepwise(unittest.TestCase):
         writer = MessageWriter(HEADER, 12 + 17 + 3 * 16 - 1)
         for is_required in (False, True):
             with self.assertRaises(dnw.MessageTooLong):
-                writer.answer_set(addresses, is_required=is_required)
+                writer.answer_set(addresses, required=is_required)
             self.assertEqual((writer.size, Message.from_wire(writer.finish()).header.truncation), (12, is_required))
         writer = MessageWriter(HEADER)
         writer.answer_set(addresses)
@@ -354,6 +354,29 @@ class Lists(unittest.TestCase):
         self.assertEqual(plain.reply(response_code=15).header.response_code, 15)
         for code in [16, 23, 4095]:
             self.assertEqual(make_query("a.", "A", payload=1232).reply(response_code=code).response_code, code)
+
+    def test_a_reply_says_what_its_request_asks(self) -> None:
+        # BADVERS for another version (RFC 6891, section 6.1.3), without records, and DO as the request (RFC 3225, section 3)
+        for version, dnssec_ok in [(0, False), (0, True), (1, False), (255, True)]:
+            request = Message.build(Header(7), [QUESTION], edns=Edns(version=version, dnssec_ok=dnssec_ok))
+            asks = Edns(4096, 7, not dnssec_ok, [dnw.Nsid()])
+            made = request.reply([GLUE], response_code=3, edns=asks)
+            code, count = (3, 1) if version == 0 else (16, 0)
+            wanted = Edns(4096, 0, dnssec_ok, [dnw.Nsid()])
+            self.assertEqual((made.response_code, len(made.answers), made.edns), (code, count, wanted))
+            self.assertEqual(Message.from_wire(made.to_wire()), made)
+            # so does one that is written item by item, also if nobody writes its OPT record
+            for edns in (None, asks):
+                writer = MessageWriter.reply(request, response_code=3)
+                if edns is not None:
+                    writer.edns(edns)
+                read = Message.from_wire(writer.finish())
+                said = Edns(1232, 0, dnssec_ok) if edns is None else wanted
+                self.assertEqual((read.response_code, read.edns, writer.held), (code, said, 0))
+        plain = MessageWriter.reply(make_query("a.", "A"))
+        plain.edns(Edns(4096))
+        plain.last(KEY)
+        self.assertEqual(Message.from_wire(plain.finish()).additionals, (KEY,))
 
     def test_a_refusal_is_whole_without_a_record(self) -> None:
         later = Message.build(Header(7), [QUESTION], edns=Edns(version=1))

@@ -25,8 +25,8 @@ const SECTIONS: usize = 4;
 const REQUIRED: u8 = 0x20;
 const OPTIONAL: u8 = 0x80;
 
-/// The initial capacity, in octets.
-const USUAL_SIZE: usize = 512;
+/// The initial capacity of a section, in octets.
+const USUAL_SIZE: usize = 256;
 /// The octets of the longest reply without records: a header and a question.
 const REPLY_SIZE: usize = HEADER_SIZE + ffi::FORM_SIZE + 4;
 /// The largest message that a reply accepts, in octets. It goes through most networks without fragmentation.
@@ -68,15 +68,11 @@ pub(crate) const USUAL_PAYLOAD: u16 = 1232;
 #[derive(Clone)]
 pub struct MessageBuilder {
     header: Header,
-    /// The list of items that `dnw_message_write` takes, but for the OPT record.
-    items: Vec<u8>,
-    /// The offset at which each section ends.
-    ends: [usize; SECTIONS],
+    /// The request to which this is a reply.
+    request: Option<Vec<u8>>,
+    /// The items of each section, of which `dnw_message_write` takes a list, but for the OPT record.
+    sections: [Vec<u8>; SECTIONS],
     edns: Option<Opt>,
-    /// Whether it may have EDNS: a reply does if its request has.
-    takes_edns: bool,
-    /// The response code with which a reply began.
-    begun: Option<ResponseCode>,
     /// The message is padded to a multiple of so many octets, if they are not 0.
     block: u16,
     /// Why there is no such reply.
@@ -102,16 +98,7 @@ impl MessageBuilder {
     /// # Ok::<(), dns_names_wire::Error>(())
     /// ```
     pub fn new(header: Header) -> Self {
-        MessageBuilder {
-            header,
-            items: Vec::with_capacity(USUAL_SIZE),
-            ends: [0; SECTIONS],
-            edns: None,
-            takes_edns: true,
-            begun: None,
-            block: 0,
-            failure: None,
-        }
+        MessageBuilder { header, request: None, sections: Default::default(), edns: None, block: 0, failure: None }
     }
 
     /// Returns a query for records of a name, of class IN, with RD set.
@@ -129,17 +116,15 @@ impl MessageBuilder {
         let mut query = MessageBuilder::new(Header::default());
         let (mut room, mut writer) = ([0; REPLY_SIZE], ffi::Writer::none());
         let form = (record_type.code(), Class::IN.code());
-        match name.into().with_form(|name| writer.query(&mut room, REPLY_SIZE, (id, true), name, form, 0)) {
-            Ok(()) => query.begin_as(&room[..writer.len]),
-            Err(error) => query.failure = Some(error),
-        }
+        let begun = name.into().with_form(|name| writer.query(&mut room, REPLY_SIZE, (id, true), name, form, 0));
+        query.failure = begun.and_then(|()| query.begin_as(&room[..writer.len])).err();
         query
     }
 
     /// Returns a reply to a request, as [`MessageWriter::reply_to`] begins it: with its id, operation code, RD, CD and
     /// question. It has EDNS if the request has, and only then (RFC 6891, sections 6.1.1 and 7): with the same DO (RFC
-    /// 3225, section 3), version 0, and 1232 octets as the largest message that is accepted, or what
-    /// [`edns`](MessageBuilder::edns) says.
+    /// 3225, section 3), version 0, and 1232 octets as the largest message that is accepted, or the size and the options of
+    /// [`edns`](MessageBuilder::edns).
     ///
     /// [`MessageWriter::reply_to`]: crate::MessageWriter::reply_to
     ///
@@ -157,36 +142,26 @@ impl MessageBuilder {
     /// ```
     pub fn reply_to(request: &Message<'_>) -> Self {
         let mut reply = MessageBuilder::new(Header::default());
-        if let Err(error) = reply.begin_reply(request) {
-            reply.failure = Some(error);
-        }
+        reply.edns(&Edns::new(USUAL_PAYLOAD));
+        let (mut room, mut writer) = ([0; REPLY_SIZE], ffi::Writer::none());
+        let begun = writer.reply(&mut room, REPLY_SIZE, request.octets(), (0, 0)).and_then(|asked| {
+            reply.begin_as(&room[..writer.len])?;
+            reply.header.response_code = asked.response_code.into();
+            Ok(())
+        });
+        reply.failure = begun.err();
+        reply.request = Some(request.octets().to_vec());
         reply
     }
 
-    fn begin_reply(&mut self, request: &Message<'_>) -> Result<(), Error> {
-        let (mut room, mut writer) = ([0; REPLY_SIZE], ffi::Writer::none());
-        let edns = writer.reply(&mut room, REPLY_SIZE, request.octets(), (0, 0))?;
-        self.begin_as(&room[..writer.len]);
-        self.header.response_code = edns.response_code.into();
-        self.begun = Some(self.header.response_code);
-        self.takes_edns = edns.is_present;
-        if edns.is_present {
-            let (max_payload, version, dnssec_ok) = (USUAL_PAYLOAD, 0, edns.dnssec_ok);
-            self.edns = Some(Opt { max_payload, version, dnssec_ok, options: Vec::new() });
+    /// Takes the header and the question of a message that has begun: one or none, whose name is whole.
+    fn begin_as(&mut self, begun: &[u8]) -> Result<(), Error> {
+        self.header = Message::read(begun)?.header();
+        if begun.len() > HEADER_SIZE {
+            self.items(QUESTIONS).push(QUESTIONS);
+            self.items(QUESTIONS).extend_from_slice(&begun[HEADER_SIZE..]);
         }
         Ok(())
-    }
-
-    /// Takes the header and the question of a message that has begun: one or none, whose name is whole.
-    fn begin_as(&mut self, begun: &[u8]) {
-        if let &[i, d, high, low, ..] = begun {
-            self.header = Header::of_bits(u16::from_be_bytes([i, d]), u16::from_be_bytes([high, low]));
-        }
-        if begun.len() > HEADER_SIZE {
-            self.items.push(QUESTIONS);
-            self.items.extend_from_slice(&begun[HEADER_SIZE..]);
-            self.added(QUESTIONS, 0);
-        }
     }
 
     /// Returns the header. Its counts are not used.
@@ -252,15 +227,12 @@ impl MessageBuilder {
     /// # Ok::<(), dns_names_wire::Error>(())
     /// ```
     pub fn response_code(&mut self, code: ResponseCode) -> &mut Self {
-        // No code was asked for when the reply began. If it has one, that is the only one it can have.
-        if self.begun.map_or(true, |code| code == ResponseCode::NoError) {
-            self.header.response_code = code;
-        }
+        self.header.response_code = code;
         self
     }
 
     /// Sets the EDNS fields, in place of those set before. `finish` writes the OPT record after the others, before a signature.
-    /// A reply has them only if its request has EDNS (RFC 6891, section 7).
+    /// A reply has them only if its request has EDNS (RFC 6891, section 7), with the DO of the request and version 0.
     ///
     /// ```
     /// use dns_names_wire::{Edns, Header, Message, MessageBuilder, Pairs};
@@ -303,14 +275,12 @@ impl MessageBuilder {
     /// # Ok::<(), dns_names_wire::Error>(())
     /// ```
     pub fn question<'n>(&mut self, name: impl Into<NameRef<'n>>, record_type: RecordType, class: Class) -> &mut Self {
-        let start = self.items.len();
-        self.items.push(QUESTIONS);
-        if let Err(error) = name.into().put(&mut self.items) {
-            self.failure = Some(error);
-        }
-        self.items.extend_from_slice(&record_type.code().to_be_bytes());
-        self.items.extend_from_slice(&class.code().to_be_bytes());
-        self.added(QUESTIONS, start);
+        let items = self.items(QUESTIONS);
+        items.push(QUESTIONS);
+        let put = name.into().put(items);
+        items.extend_from_slice(&record_type.code().to_be_bytes());
+        items.extend_from_slice(&class.code().to_be_bytes());
+        self.failure = self.failure.or(put.err());
         self
     }
 
@@ -537,46 +507,56 @@ impl MessageBuilder {
         if let Some(error) = self.failure {
             return Err(error);
         }
+        let flags = self.header.flag_bits();
+        let asked = self.asked(flags)?;
         let mut list = Room::new();
-        list.extend_from_slice(&self.items);
-        if let Some(edns) = self.edns.as_ref().filter(|_| self.takes_edns) {
-            edns.put(&mut list)?;
+        self.sections.iter().for_each(|items| list.extend_from_slice(items));
+        if let Some(edns) = &self.edns {
+            edns.put(asked.as_ref(), &mut list)?;
         }
-        let head = (self.header.id, self.header.flag_bits(), self.header.response_code.into());
-        ffi::write_list(list.as_slice(), max_size, head, (self.begun.is_some(), self.block), message)
+        let code = asked.as_ref().map_or(self.header.response_code.into(), |asked| asked.response_code);
+        let head = (self.header.id, flags, code);
+        ffi::write_list(list.as_slice(), max_size, head, (asked.is_some(), self.block), message)
+    }
+
+    /// Returns what a reply with the response code of the header needs, if this is a reply.
+    fn asked(&self, flags: u16) -> Result<Option<ffi::Edns>, Error> {
+        let code = self.header.response_code.into();
+        let begin =
+            |request: &Vec<u8>| ffi::Writer::none().reply(&mut [0; REPLY_SIZE], REPLY_SIZE, request, (flags, code));
+        self.request.as_ref().map(begin).transpose()
     }
 
     fn data(&mut self, section: u8, name: NameRef<'_>, ttl: u32, data: &RData<'_>) -> Result<&mut Self, Error> {
-        let start = self.items.len();
-        self.items.push(section);
-        match put_record(&mut self.items, name, (data.record_type(), Class::IN, ttl), |octets| data.put(octets)) {
-            Ok(_) => self.added(section, start),
+        let items = self.items(section);
+        let start = items.len();
+        items.push(section);
+        match put_record(items, name, (data.record_type(), Class::IN, ttl), |octets| data.put(octets)) {
+            Ok(_) => Ok(self),
             Err(error) => {
-                self.items.truncate(start);
-                return Err(error);
+                items.truncate(start);
+                Err(error)
             }
         }
-        Ok(self)
     }
 
     fn all<R: Borrow<RecordBuf>>(&mut self, section: u8, octet: u8, records: impl IntoIterator<Item = R>) -> &mut Self {
+        let items = self.items(section);
         for record in records {
-            let start = self.items.len();
-            self.items.push(octet);
-            self.items.extend_from_slice(record.borrow().as_wire());
-            self.added(section, start);
+            items.push(octet);
+            items.extend_from_slice(record.borrow().as_wire());
         }
         self
     }
 
-    /// Moves what was added at the end to the end of its section. Mostly it is there.
+    /// Returns the items of a section.
     #[inline]
-    fn added(&mut self, section: u8, start: usize) {
-        let (section, added) = (usize::from(section), self.items.len() - start);
-        if self.ends[section] < start {
-            self.items[self.ends[section]..].rotate_right(added);
+    fn items(&mut self, section: u8) -> &mut Vec<u8> {
+        let items = &mut self.sections[usize::from(section)];
+        if items.capacity() == 0 {
+            items.reserve(USUAL_SIZE);
         }
-        self.ends[section..].iter_mut().for_each(|end| *end += added);
+        items
     }
 }
 
@@ -601,9 +581,9 @@ impl Opt {
         }
     }
 
-    /// Appends the OPT record, which the library writes into a message without other items, as an item of the list. The high
-    /// bits of the response code come with the message.
-    fn put(&self, list: &mut Room) -> Result<(), Error> {
+    /// Appends the OPT record, which the library writes into a message without other items, as an item of the list, if there is
+    /// one: that of a reply, if something is asked. The high bits of the response code come with the message.
+    fn put(&self, asked: Option<&ffi::Edns>, list: &mut Room) -> Result<(), Error> {
         let (mut few, mut many) = ([0; HEADER_SIZE + ffi::EDNS_SIZE], Vec::new());
         let message = match self.options.len() {
             0 => &mut few[..],
@@ -614,9 +594,14 @@ impl Opt {
         };
         let mut writer = ffi::Writer::none();
         writer.begin(message, usize::MAX, (0, 0))?;
-        writer.edns(message, (0, 0), (self.max_payload, 0, self.version, self.dnssec_ok), &self.options)?;
-        list.extend_from_slice(&[ADDITIONALS]);
-        list.extend_from_slice(&message[HEADER_SIZE..writer.len]);
+        match asked {
+            Some(asked) => writer.reply_edns(message, asked, (self.max_payload, 0), &self.options)?,
+            None => writer.edns(message, (0, 0), (self.max_payload, self.version, self.dnssec_ok), &self.options)?,
+        }
+        if writer.len > HEADER_SIZE {
+            list.extend_from_slice(&[ADDITIONALS]);
+            list.extend_from_slice(&message[HEADER_SIZE..writer.len]);
+        }
         Ok(())
     }
 }

@@ -48,10 +48,6 @@ const NO_ROOM: u32 = 2;
 pub(crate) const HEADER_SIZE: usize = 12;
 /// The octets of an OPT record without options.
 pub(crate) const EDNS_SIZE: usize = 11;
-/// An option has so many octets before its own.
-const OPTION_SIZE: usize = 4;
-/// A message is padded to a multiple of at most so many octets.
-const MOST_BLOCK: u16 = 512;
 /// The bytes of the longest text of an error.
 pub(crate) const ERROR_TEXT_SIZE: usize = 64;
 /// `DNW_SENTENCE_SIZE`
@@ -385,6 +381,16 @@ extern "C" {
         response_code: u16,
         writer: *mut Writer,
         edns: *mut Edns,
+    ) -> u32;
+    fn dnw_writer_reply_edns(
+        message: *mut u8,
+        message_size: usize,
+        asked: *const Edns,
+        max_payload: u16,
+        options: *const u8,
+        options_len: usize,
+        block: u16,
+        writer: *mut Writer,
     ) -> u32;
     fn dnw_writer_question(
         message: *mut u8,

@@ -728,15 +728,10 @@ impl<'a> Iterator for WholeNames<'a> {
     type Item = NameRef<'a>;
 
     fn next(&mut self) -> Option<NameRef<'a>> {
-        if self.offset == self.octets.len() {
-            return None;
-        }
-        let start = self.offset;
-        while let Some(len) = self.octets.get(self.offset).filter(|len| **len > 0) {
-            self.offset += 1 + usize::from(*len);
-        }
-        self.offset += 1;
-        Some(NameRef::checked(self.octets, start, self.offset))
+        // The names were checked, so none is there only at the end.
+        let name = NameRef::read(self.octets, self.offset).ok()?;
+        self.offset = name.end();
+        Some(name)
     }
 }
 

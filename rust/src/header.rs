@@ -190,24 +190,6 @@ impl Default for Header {
 }
 
 impl Header {
-    /// Returns the header, without counts, with an id and the 16 bits after it.
-    pub(crate) fn of_bits(id: u16, bits: u16) -> Self {
-        let bit = |at: u8| bits >> at & 1 == 1;
-        Header {
-            id,
-            is_response: bit(15),
-            op_code: ((bits >> 11 & 15) as u8).into(),
-            authoritative: bit(10),
-            truncation: bit(9),
-            recursion_desired: bit(8),
-            recursion_available: bit(7),
-            authentic_data: bit(5),
-            checking_disabled: bit(4),
-            response_code: (bits & 15).into(),
-            ..Header::default()
-        }
-    }
-
     /// Returns the 16 bits after the id.
     pub(crate) fn flag_bits(&self) -> u16 {
         let bit = |is_set: bool, at: u8| u16::from(is_set) << at;

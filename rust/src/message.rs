@@ -5,7 +5,7 @@ use crate::error::Error;
 use crate::ffi::{self, HEADER_SIZE};
 use crate::field::Pairs;
 use crate::header::{Header, OpCode, ResponseCode};
-use crate::name_ref::{pass_name, NameRef};
+use crate::name_ref::NameRef;
 use crate::record::Record;
 use alloc::vec::Vec;
 use core::fmt;
@@ -13,9 +13,6 @@ use core::iter::FusedIterator;
 
 /// How many compression pointers the names of a message may follow in total, by default.
 const MAX_POINTERS: usize = 65536;
-
-/// The octets of the counts, at the end of the header.
-const COUNTS_SIZE: usize = 8;
 
 /// The titles of the sections, and those of an UPDATE (RFC 2136, section 2).
 const TITLES: [&str; 4] = ["QUESTION", "ANSWER", "AUTHORITY", "ADDITIONAL"];
@@ -180,38 +177,20 @@ impl<'a> Message<'a> {
     /// # Ok::<(), dns_names_wire::Error>(())
     /// ```
     pub fn edns(&self) -> Result<Option<Edns<'a>>, Error> {
-        let (read, options_start) = match self.read_edns()? {
-            Some(read) => read,
-            None => return Ok(None),
-        };
+        let read = self.read_edns()?;
+        if !read.is_present {
+            return Ok(None);
+        }
         Ok(Some(Edns {
             max_payload: read.max_payload,
             version: read.version,
             dnssec_ok: read.dnssec_ok,
-            options: &self.octets[options_start..options_start + read.options_len],
+            options: &self.octets[read.options_offset..read.options_offset + read.options_len],
         }))
     }
 
-    /// Returns the EDNS fields and the offset of the options, or `None` if there is no OPT record.
-    fn read_edns(&self) -> Result<Option<(ffi::Edns, usize)>, Error> {
-        let is_opt = |record: &Record| record.record_type() == RecordType::OPT;
-        let is_outside = self.answers().chain(self.authorities()).any(|record| is_opt(&record));
-        let mut records = self.additionals().filter(is_opt);
-        let opt = match (records.next(), records.next()) {
-            (None, _) if !is_outside => return Ok(None),
-            (Some(opt), None) if !is_outside && self.octets.get(opt.owner().start()) == Some(&0) => opt,
-            _ => {
-                let read = ffi::read_edns(self.octets, self.max_pointers)?;
-                return Ok(Some((read.clone(), read.options_offset)));
-            }
-        };
-        // The record alone, after a header, has the same fields, so the whole message is not read again.
-        let (start, mut alone) = (opt.owner().start(), Vec::new());
-        alone.extend_from_slice(&self.octets[..HEADER_SIZE]);
-        alone[HEADER_SIZE - COUNTS_SIZE..].copy_from_slice(&[0, 0, 0, 0, 0, 0, 0, 1]);
-        alone.extend_from_slice(&self.octets[start..opt.end()]);
-        let read = ffi::read_edns(&alone, self.max_pointers)?;
-        Ok(Some((read, opt.data_offset())))
+    fn read_edns(&self) -> Result<ffi::Edns, Error> {
+        ffi::read_edns(self.octets, self.max_pointers)
     }
 
     /// Returns the response code, with the high bits from the OPT record (RFC 6891, section 6.1.3).
@@ -228,7 +207,7 @@ impl<'a> Message<'a> {
     /// # Ok::<(), dns_names_wire::Error>(())
     /// ```
     pub fn response_code(&self) -> Result<ResponseCode, Error> {
-        Ok(self.read_edns()?.map_or(self.read.response_code, |(read, _)| read.response_code).into())
+        Ok(self.read_edns()?.response_code.into())
     }
 
     /// Returns whether the message is a response with the id, the operation code and the one question of a request, which
@@ -429,8 +408,7 @@ impl<'a> Iterator for Questions<'a> {
     fn next(&mut self) -> Option<Question<'a>> {
         self.left = self.left.checked_sub(1)?;
         // The message was checked, so nothing is missing here.
-        let (end, _) = pass_name(self.message, self.offset)?;
-        let name = NameRef::checked(self.message, self.offset, end);
+        let name = NameRef::read(self.message, self.offset).ok()?;
         let fields = self.message.get(name.end()..name.end() + 4)?;
         self.offset = name.end() + 4;
         let number = |at: usize| u16::from_be_bytes([fields[at], fields[at + 1]]);

@@ -179,20 +179,6 @@ impl<'a> NameRef<'a> {
     }
 }
 
-/// Returns the offset after the own octets of a name that was read before, and whether they end in a pointer. Returns
-/// `None` if the message ends first.
-#[inline]
-pub(crate) fn pass_name(message: &[u8], start: usize) -> Option<(usize, bool)> {
-    let mut at = start;
-    loop {
-        match *message.get(at)? {
-            0 => return Some((at + 1, false)),
-            len @ 1..=63 => at += 1 + usize::from(len),
-            _ => return Some((at + 2, true)),
-        }
-    }
-}
-
 impl fmt::Display for NameRef<'_> {
     fn fmt(&self, f: &mut fmt::Formatter<'_>) -> fmt::Result {
         self.with_labels(|form| form::show(form, self.is_fqdn, f))

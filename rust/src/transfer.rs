@@ -78,10 +78,7 @@ impl Transfer {
             true => writer.fill(&mut room, &self.items, self.next)?,
             false => self.items.len(),
         };
-        if edns.is_present {
-            let fields = (USUAL_PAYLOAD, edns.response_code, 0, edns.dnssec_ok);
-            writer.edns(&mut room, (ffi::EDNS_SIZE, 0), fields, &[])?;
-        }
+        writer.reply_edns(&mut room, &edns, (USUAL_PAYLOAD, 0), &[])?;
         room.truncate(writer.len);
         Ok(room)
     }

@@ -1,4 +1,5 @@
 //! Messages that are written item by item, into a buffer of the caller.
+use crate::builder::USUAL_PAYLOAD;
 use crate::codes::{Class, RecordType};
 use crate::error::{Error, ErrorKind, Section};
 use crate::ffi;
@@ -63,8 +64,8 @@ pub struct MessageWriter<'m> {
     state: ffi::Writer,
     /// the response code
     code: u16,
-    /// the octets that are held back for an OPT record
-    held: usize,
+    /// what the request of a reply asks by EDNS
+    asked: Option<ffi::Edns>,
 }
 
 impl<'m> MessageWriter<'m> {
@@ -84,7 +85,7 @@ impl<'m> MessageWriter<'m> {
     /// ```
     pub fn new(message: &'m mut [u8], max_size: usize, header: &Header) -> Result<Self, Error> {
         let mut writer =
-            MessageWriter { message, state: ffi::Writer::none(), code: header.response_code.into(), held: 0 };
+            MessageWriter { message, state: ffi::Writer::none(), code: header.response_code.into(), asked: None };
         writer.state.begin(writer.message, max_size, (header.id, header.flag_bits()))?;
         Ok(writer)
     }
@@ -117,7 +118,7 @@ impl<'m> MessageWriter<'m> {
         record_type: RecordType,
         max_payload: Option<u16>,
     ) -> Result<Self, Error> {
-        let mut writer = MessageWriter { message, state: ffi::Writer::none(), code: 0, held: 0 };
+        let mut writer = MessageWriter { message, state: ffi::Writer::none(), code: 0, asked: None };
         let (form, size) = ((record_type.code(), Class::IN.code()), max_payload.map_or(0, |size| size.max(1)));
         let (state, room) = (&mut writer.state, &mut *writer.message);
         name.into().with_form(|name| state.query(room, max_size, (id, true), name, form, size))?;
@@ -132,9 +133,9 @@ impl<'m> MessageWriter<'m> {
     /// complete, its EDNS is not valid (RFC 6891, section 7), or it has more than one question (RFC 9619). A reply with
     /// one of these codes, or `NotImp`, is whole without a record: it takes OPT and a last record alone.
     ///
-    /// If the request has EDNS, the size of the largest message that it accepts and DO are returned. Then the reply needs
-    /// an OPT record, and its octets are held back until [`edns`](MessageWriter::edns). Over UDP,
-    /// [`set_max_size`](MessageWriter::set_max_size) to that size.
+    /// If the request has EDNS, the size of the largest message that it accepts and DO are returned. Then the reply has an
+    /// OPT record, whose octets are held back: [`edns`](MessageWriter::edns) writes it, or else [`last`](MessageWriter::last)
+    /// or [`finish`](MessageWriter::finish). Over UDP, [`set_max_size`](MessageWriter::set_max_size) to that size.
     ///
     /// [`response_code`]: MessageWriter::response_code
     ///
@@ -159,16 +160,13 @@ impl<'m> MessageWriter<'m> {
         request: &[u8],
         header: &Header,
     ) -> Result<(Self, Option<Edns<'static>>), Error> {
-        let mut writer = MessageWriter { message, state: ffi::Writer::none(), code: 0, held: 0 };
+        let mut state = ffi::Writer::none();
         let flags = (header.flag_bits(), header.response_code.into());
-        let asked = writer.state.reply(writer.message, max_size, request, flags)?;
-        writer.code = asked.response_code;
-        if !asked.is_present {
-            return Ok((writer, None));
-        }
-        writer.held = ffi::EDNS_SIZE;
-        let (max_payload, version, dnssec_ok) = (asked.max_payload, asked.version, asked.dnssec_ok);
-        Ok((writer, Some(Edns { max_payload, version, dnssec_ok, options: &[] })))
+        let asked = state.reply(message, max_size, request, flags)?;
+        let ffi::Edns { is_present, max_payload, version, dnssec_ok, .. } = asked;
+        let edns = Edns { max_payload, version, dnssec_ok, options: &[] };
+        let writer = MessageWriter { message, state, code: asked.response_code, asked: Some(asked) };
+        Ok((writer, Some(edns).filter(|_| is_present)))
     }
 
     /// Adds a question.
@@ -338,8 +336,8 @@ impl<'m> MessageWriter<'m> {
         self
     }
 
-    /// Adds an OPT record with the response code (RFC 6891, section 6.1). In a reply, the octets that are held back for
-    /// it are used.
+    /// Adds an OPT record with the response code (RFC 6891, section 6.1). A reply has it only if its request has EDNS
+    /// (section 7), with the DO of the request (RFC 3225, section 3) and version 0; otherwise nothing is added.
     ///
     /// # Errors
     ///
@@ -378,14 +376,25 @@ impl<'m> MessageWriter<'m> {
     /// # Ok::<(), dns_names_wire::Error>(())
     /// ```
     pub fn padded_edns(&mut self, edns: &Edns<'_>, block: u16) -> Result<&mut Self, Error> {
-        let fields = (edns.max_payload, self.code, edns.version, edns.dnssec_ok);
-        self.state.edns(self.message, (self.held, block), fields, edns.options)?;
-        self.held = 0;
+        match &self.asked {
+            Some(asked) => self.state.reply_edns(self.message, asked, (edns.max_payload, block), edns.options)?,
+            None => {
+                let fields = (edns.max_payload, edns.version, edns.dnssec_ok);
+                self.state.edns(self.message, (self.code, block), fields, edns.options)?;
+            }
+        }
         Ok(self)
     }
 
+    /// Adds the OPT record that a reply has, if it is not there, in the octets that are held back for it. It fails if it is there.
+    fn add_owed_edns(&mut self) {
+        if self.asked.is_some() {
+            let _ = self.edns(&Edns::new(USUAL_PAYLOAD)).is_ok();
+        }
+    }
+
     /// Adds a record to the Additional section after which no item may follow: TSIG (RFC 8945, section 5.1) or SIG(0).
-    /// `held` octets are given back first.
+    /// A reply gets its OPT record first. `held` octets are given back first.
     ///
     /// # Errors
     ///
@@ -402,6 +411,7 @@ impl<'m> MessageWriter<'m> {
     /// # Ok::<(), dns_names_wire::Error>(())
     /// ```
     pub fn last(&mut self, held: usize, record: &RecordBuf) -> Result<&mut Self, Error> {
+        self.add_owed_edns();
         let read = record.as_record();
         let fixed = (read.record_type().code(), read.class().code(), read.ttl());
         read.owner().with_form(|owner| self.state.last(self.message, held, owner, fixed, read.raw_data()))?;
@@ -451,7 +461,8 @@ impl<'m> MessageWriter<'m> {
         &self.message[..self.state.len]
     }
 
-    /// Returns the message.
+    /// Returns the message. A reply gets its OPT record first, with 1232 octets as the largest message that is accepted, if it
+    /// has none and its request has EDNS.
     ///
     /// ```
     /// use dns_names_wire::{Header, MessageWriter};
@@ -459,7 +470,8 @@ impl<'m> MessageWriter<'m> {
     /// assert_eq!(MessageWriter::new(&mut [0; 512], 512, &Header::default())?.finish(), [0; 12]);
     /// # Ok::<(), dns_names_wire::Error>(())
     /// ```
-    pub fn finish(self) -> &'m mut [u8] {
+    pub fn finish(mut self) -> &'m mut [u8] {
+        self.add_owed_edns();
         &mut self.message[..self.state.len]
     }
 }

@@ -511,6 +511,69 @@ fn a_reply_has_edns_only_if_the_request_has() {
     assert!(read.is_reply_to(&plain));
 }
 
+/// What a request asks by EDNS decides what its reply says, whatever the server asks for: BADVERS for another version (RFC 6891,
+/// section 6.1.3), without records, and DO as the request has it (RFC 3225, section 3).
+#[test]
+fn a_reply_says_what_its_request_asks() {
+    let asks = |version, dnssec_ok| {
+        let mut edns = Edns::new(1232);
+        (edns.version, edns.dnssec_ok) = (version, dnssec_ok);
+        MessageBuilder::query(7, &name("a."), RecordType::A).edns(&edns).finish(512).unwrap()
+    };
+    let (address, cookie) = (record("a. 60 A 192.0.2.1"), Pairs::to_wire([(10, [7; 8])]).unwrap());
+    for (version, dnssec_ok) in [(0, false), (0, true), (1, false), (255, true)] {
+        let request = asks(version, dnssec_ok);
+        let mut own = Edns::new(4096).with_options(Pairs::from_wire(&cookie).unwrap());
+        (own.version, own.dnssec_ok) = (7, !dnssec_ok);
+        let mut reply = MessageBuilder::reply_to(&Message::read(&request).unwrap());
+        reply.answers([&address]).response_code(ResponseCode::NXDomain).edns(&own);
+        reply.header_mut().response_code = ResponseCode::NXDomain;
+        let written = reply.finish(512).unwrap();
+        (own.version, own.dnssec_ok) = (0, dnssec_ok);
+        let (code, count) = if version == 0 { (ResponseCode::NXDomain, 1) } else { (ResponseCode::BADVERS, 0) };
+        let read = Message::read(&written).unwrap();
+        assert_eq!((read.response_code(), read.answers().len(), read.edns()), (Ok(code), count, Ok(Some(own))));
+        // So does one that is written item by item, also if nobody writes its OPT record.
+        let mut header = Header::default();
+        header.response_code = ResponseCode::NXDomain;
+        for asks in [true, false] {
+            let mut room = [0; 512];
+            let (mut writer, _) = MessageWriter::reply_to(&mut room, 512, &request, &header).unwrap();
+            if asks {
+                let mut other = own;
+                (other.version, other.dnssec_ok) = (7, !dnssec_ok);
+                writer.edns(&other).unwrap();
+            }
+            let read = Message::read(writer.finish()).unwrap();
+            let mut bare = Edns::new(1232);
+            bare.dnssec_ok = dnssec_ok;
+            assert_eq!((read.response_code(), read.edns()), (Ok(code), Ok(Some(if asks { own } else { bare }))));
+        }
+    }
+}
+
+/// A reply that is written item by item has no OPT record if its request has none (RFC 6891, section 7), and one before its
+/// signature if it has (RFC 8945, section 5.1).
+#[test]
+fn a_signature_is_after_what_a_reply_owes() {
+    let tsig = record("key. 0 ANY TSIG \\# 19 00 00005F0F9043 012C 0002 491B DCC6 0000 0000");
+    for has_edns in [false, true] {
+        let mut query = MessageBuilder::query(7, &name("a."), RecordType::A);
+        if has_edns {
+            query.edns(&Edns::new(512));
+        }
+        let request = query.finish(512).unwrap();
+        let mut room = [0; 512];
+        let (mut writer, _) = MessageWriter::reply_to(&mut room, 512, &request, &Header::default()).unwrap();
+        if !has_edns {
+            assert_eq!(writer.edns(&Edns::new(4096)).unwrap().octets().len(), 19);
+        }
+        writer.last(0, &tsig).unwrap();
+        let types: Vec<_> = Message::read(writer.finish()).unwrap().additionals().map(|it| it.record_type()).collect();
+        assert_eq!(types, if has_edns { vec![RecordType::OPT, RecordType::TSIG] } else { vec![RecordType::TSIG] });
+    }
+}
+
 /// A reply may lack the question if none was asked (RFC 7873, section 5.4), if it is to an UPDATE (RFC 2136, section 3.8), or if
 /// its code says that the request was not read or taken.
 #[test]

@@ -1,14 +1,22 @@
 //! Replies, as they begin.
 ghost use Rattle.std.specs.Prelude.{◌≡◌};
-ghost use Rattle.dnw_c_base.specs.Results.{Returns};
-ghost use Rattle.dnw_c_messages.specs.BegunReplies.{RepliesOr, of_reply, read_asked};
+ghost use Rattle.dnw_c_base.specs.Results.{Returns, ReturnsNumber};
+ghost use Rattle.dnw_c_messages.specs.BegunReplies.{AddsReplyEdns, FailsToAddReplyEdns, RepliesOr, of_reply, read_asked};
+ghost use Rattle.dnw_c_messages.specs.WriterCalls.{AddsOr};
 
 use crate::edns::ReadEdns;
+use crate::sets::add_edns;
 use crate::writer::of_write;
 use dnw_c_base::failure::Failure;
 use dnw_c_base::results::report;
 use dnw_message_writer::reply::{Asked, ReplyError, reply_code, takes_records};
 use dnw_message_writer::state::WriterState;
+
+/// The octets of an `OPT` record without options, which are held back from the start of a reply.
+const OPT_SIZE: usize = 11;
+
+/// The version of EDNS that replies have (RFC 6891, section 6.1.3).
+const VERSION: u8 = 0;
 
 /// Begins the reply to a request: puts its header and its question, and what the reply needs of EDNS.
 #[unsafe(no_mangle)]
@@ -27,6 +35,56 @@ pub extern "C" fn dnw_writer_reply(
         reply(message, max_size, request, flags, response_code, writer),
         edns,
     )
+}
+
+/// Adds the `OPT` record of a reply, if its request has one: with this size of messages and these options, and else as the request asks.
+#[unsafe(no_mangle)]
+pub extern "C" fn dnw_writer_reply_edns(
+    message: &mut [u8],
+    asked: &ReadEdns,
+    max_payload: u16,
+    options: &[u8],
+    block: u16,
+    writer: &mut WriterState,
+) -> u32
+    ensures { ReturnsNumber (AddsOr (AddsReplyEdns asked.now max_payload options.now block) (FailsToAddReplyEdns asked.now max_payload options.now block)
+        writer.old message.old writer.new message.new) result }
+{
+    let added = add_reply_edns(message, asked, max_payload, options, block, writer);
+    report(added, &mut ())
+}
+
+/// Adds the `OPT` record of a reply, if it needs one.
+fn add_reply_edns(
+    message: &mut [u8],
+    asked: &ReadEdns,
+    max_payload: u16,
+    options: &[u8],
+    block: u16,
+    writer: &mut WriterState,
+) -> Result<(), Failure>
+    ensures { AddsOr (AddsReplyEdns asked.now max_payload options.now block) (FailsToAddReplyEdns asked.now max_payload options.now block)
+        writer.old message.old writer.new message.new result }
+{
+    if !asked.is_present {
+        return Ok(());
+    }
+    let rcode_high = (asked.response_code / 16 % 256) as u8;
+    let added = add_edns(
+        message,
+        OPT_SIZE,
+        max_payload,
+        rcode_high,
+        VERSION,
+        asked.dnssec_ok,
+        options,
+        block,
+        writer,
+    );
+    match added {
+        Ok(()) => Ok(()),
+        Err(failure) => Err(failure),
+    }
 }
 
 /// Begins the reply to a request.

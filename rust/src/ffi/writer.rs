@@ -53,6 +53,20 @@ impl Writer {
         outcome(number, edns)
     }
 
+    /// Adds the OPT record of a reply, if its request has one, with a size of messages, and pads the message to a multiple of
+    /// `block` octets.
+    pub(crate) fn reply_edns(
+        &mut self,
+        message: &mut [u8],
+        asked: &Edns,
+        (max_payload, block): (u16, u16),
+        options: &[u8],
+    ) -> Result<(), Error> {
+        let (room, size, first, len) = (message.as_mut_ptr(), message.len(), options.as_ptr(), options.len());
+        // SAFETY: pointers with their lengths, see the module, and pointers to structs of these types.
+        outcome(unsafe { dnw_writer_reply_edns(room, size, asked, max_payload, first, len, block, self) }, ())
+    }
+
     /// Adds records of a list from an offset on, as many as there is room for, and returns the offset of the next item.
     pub(crate) fn fill(&mut self, message: &mut [u8], items: &[u8], start: usize) -> Result<usize, Error> {
         let (room, size, mut next) = (message.as_mut_ptr(), message.len(), 0);
@@ -118,20 +132,19 @@ impl Writer {
         unsafe { dnw_writer_release(octets, self) };
     }
 
-    /// Adds an OPT record, of which `held` octets are held back, and pads the message to a multiple of `block` octets.
+    /// Adds an OPT record, and pads the message to a multiple of `block` octets.
     pub(crate) fn edns(
         &mut self,
         message: &mut [u8],
-        (held, block): (usize, u16),
-        (max_payload, code, version, dnssec_ok): (u16, u16, u8, bool),
+        (code, block): (u16, u16),
+        (max_payload, version, dnssec_ok): (u16, u8, bool),
         options: &[u8],
     ) -> Result<(), Error> {
         let (room, size, high) = (message.as_mut_ptr(), message.len(), (code >> 4) as u8);
         let (first, len) = (options.as_ptr(), options.len());
         // SAFETY: pointers with their lengths, see the module, and one to a struct of this type.
-        let number = unsafe {
-            dnw_writer_edns(room, size, held, max_payload, high, version, dnssec_ok, first, len, block, self)
-        };
+        let number =
+            unsafe { dnw_writer_edns(room, size, 0, max_payload, high, version, dnssec_ok, first, len, block, self) };
         outcome(number, ())
     }
 
@@ -164,10 +177,10 @@ pub(crate) fn write_list(
 ) -> Result<bool, Error> {
     message.clear();
     // An item takes no more octets in a message than in the list, but for padding.
-    let padding = OPTION_SIZE + usize::from(block.min(MOST_BLOCK));
-    message.reserve(HEADER_SIZE + (items.len() + padding).min(max_size.into()));
+    let (most, max_size) = (HEADER_SIZE + items.len(), usize::from(max_size));
+    message.reserve(HEADER_SIZE.max(if block == 0 { most.min(max_size) } else { max_size }));
     let (mut result, room) = (Packed::default(), message.spare_capacity_mut());
-    let (first, size, max_size) = (room.as_mut_ptr().cast(), room.len(), usize::from(max_size));
+    let (first, size) = (room.as_mut_ptr().cast(), room.len());
     let (list, len) = (items.as_ptr(), items.len());
     // SAFETY: pointers with their lengths, see the module; and the room is not read.
     let number =
