@@ -2,16 +2,17 @@
 
 import pathlib
 import unittest
+from typing import Set
 
 from dns_names_wire import Edns, Message, RecordType, make_query
 
 FILE = pathlib.Path(__file__).resolve().parents[2] / "diff" / "servers" / "cuts.txt"
 
 
-def is_in(ranges: str, size: int) -> bool:
-    """Whether a size is in ranges as `512-660,662`; `-` is none."""
+def sizes_of(ranges: str) -> Set[int]:
+    """The sizes in ranges as `512-660,662`; `-` is none."""
     ends = [one.split("-") for one in ranges.split(",") if one != "-"]
-    return any(int(end[0]) <= size <= int(end[-1]) for end in ends)
+    return {size for end in ends for size in range(int(end[0]), int(end[-1]) + 1)}
 
 
 class Cuts(unittest.TestCase):
@@ -27,11 +28,17 @@ class Cuts(unittest.TestCase):
             query = make_query(asked.name, asked.question_type, want_dnssec=True, payload=65535, id=7)
             aa = message.header.authoritative
             reply = query.reply(*parts[:2], others, authoritative=aa, response_code=code, edns=Edns(1232))
-            for size in range(512, len(message.wire) + 1):
+            # It may have fewer octets than the server's, with names compressed that the server wrote whole.
+            own_len = len(message.to_wire(65535))
+            self.assertLessEqual(own_len, len(message.wire))
+            cut = {size for size in sizes_of(ranges) if size < own_len}
+            # every seventh, and those where something changes
+            ends = {size + by for size in (own_len, *cut) for by in (-1, 0, 1) if (size - 1 in cut) != (size + 1 in cut)}
+            for size in sorted({*range(512, own_len + 1, 7), *ends, own_len} & {*range(512, own_len + 1)}):
                 for written in (message.to_wire(size), built.to_wire(size), reply.to_wire(size)):
                     read = Message.from_wire(written)
                     self.assertLessEqual(len(written), size)
-                    self.assertEqual(read.header.truncation, is_in(ranges, size), (what, server, size))
+                    self.assertEqual(read.header.truncation, size in cut, (what, server, size))
                     self.assertTrue(read.edns is not None and read.edns.dnssec_ok)
 
 

@@ -46,7 +46,8 @@ fn reply(message: &Message<'_>) -> MessageBuilder {
     reply
 }
 
-/// The packed crate has no such file.
+/// A message may have fewer octets than the server's, with names compressed that the server wrote whole. The packed crate has no
+/// such file.
 #[test]
 fn tc_is_set_where_servers_set_it() {
     let file = std::path::Path::new(env!("CARGO_MANIFEST_DIR")).join("../diff/servers/cuts.txt");
@@ -56,11 +57,14 @@ fn tc_is_set_where_servers_set_it() {
         let whole = octets(hex);
         let message = Message::read(&whole).unwrap();
         let (built, reply) = (built(&message), reply(&message));
-        for size in 512..=whole.len() as u16 {
+        let own_len = message.to_wire(u16::MAX).unwrap().len();
+        assert!(own_len <= whole.len());
+        for size in 512..=own_len as u16 {
+            let is_cut = usize::from(size) < own_len && is_in(ranges, size);
             for written in [message.to_wire(size), built.finish(size), reply.finish(size)].map(Result::unwrap) {
                 let read = Message::read(&written).unwrap();
                 assert!(written.len() <= size.into());
-                assert_eq!(read.header().truncation, is_in(ranges, size), "{what} {server} {size}");
+                assert_eq!(read.header().truncation, is_cut, "{what} {server} {size}");
                 assert!(read.edns().unwrap().unwrap().dnssec_ok);
             }
         }
