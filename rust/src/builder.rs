@@ -68,8 +68,8 @@ pub(crate) const USUAL_PAYLOAD: u16 = 1232;
 #[derive(Clone)]
 pub struct MessageBuilder {
     header: Header,
-    /// The request to which this is a reply.
-    request: Option<Vec<u8>>,
+    /// The request to which this is a reply, and what a reply needs that has the response code of this.
+    request: Option<(Vec<u8>, ffi::Edns)>,
     /// The items of each section, of which `dnw_message_write` takes a list, but for the OPT record.
     sections: [Vec<u8>; SECTIONS],
     edns: Option<Opt>,
@@ -147,16 +147,18 @@ impl MessageBuilder {
         let begun = writer.reply(&mut room, REPLY_SIZE, request.octets(), (0, 0)).and_then(|asked| {
             reply.begin_as(&room[..writer.len])?;
             reply.header.response_code = asked.response_code.into();
+            reply.request = Some((request.octets().to_vec(), asked));
             Ok(())
         });
         reply.failure = begun.err();
-        reply.request = Some(request.octets().to_vec());
         reply
     }
 
     /// Takes the header and the question of a message that has begun: one or none, whose name is whole.
     fn begin_as(&mut self, begun: &[u8]) -> Result<(), Error> {
-        self.header = Message::read(begun)?.header();
+        let mut head = [0; HEADER_SIZE];
+        head[..4].copy_from_slice(&begun[..4]);
+        self.header = Message::read(&head)?.header();
         if begun.len() > HEADER_SIZE {
             self.items(QUESTIONS).push(QUESTIONS);
             self.items(QUESTIONS).extend_from_slice(&begun[HEADER_SIZE..]);
@@ -522,9 +524,12 @@ impl MessageBuilder {
     /// Returns what a reply with the response code of the header needs, if this is a reply.
     fn asked(&self, flags: u16) -> Result<Option<ffi::Edns>, Error> {
         let code = self.header.response_code.into();
-        let begin =
-            |request: &Vec<u8>| ffi::Writer::none().reply(&mut [0; REPLY_SIZE], REPLY_SIZE, request, (flags, code));
-        self.request.as_ref().map(begin).transpose()
+        match &self.request {
+            Some((request, asked)) if asked.response_code != code => {
+                ffi::Writer::none().reply(&mut [0; REPLY_SIZE], REPLY_SIZE, request, (flags, code)).map(Some)
+            }
+            request => Ok(request.as_ref().map(|(_, asked)| asked.clone())),
+        }
     }
 
     fn data(&mut self, section: u8, name: NameRef<'_>, ttl: u32, data: &RData<'_>) -> Result<&mut Self, Error> {
