@@ -1,0 +1,5 @@
+pub mod Zones
+pub mod First
+pub mod Spliced
+pub mod Readings
+pub mod Chains

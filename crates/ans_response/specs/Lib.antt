@@ -1,0 +1,4 @@
+pub mod Counted
+pub mod Meanings
+pub mod Seen
+pub mod Laws
