@@ -1,3 +1,5 @@
 pub mod Outcomes
+pub mod Targets
+pub mod Answers
 pub mod Seen
 pub mod Inside

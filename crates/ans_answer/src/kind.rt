@@ -3,13 +3,9 @@ ghost use Rattle.std.specs.Prelude.{◌≡◌, ◌≤◌, length, slice_range};
 ghost use Rattle.std.specs.List.{list_any};
 ghost use Rattle.ans_answer.specs.Outcomes.{is_wanted, kind};
 
+use crate::codes::{ANY, CNAME};
 use ans_store::lookup::Node;
 use ans_store::store::ZoneStore;
-
-/// The types CNAME (RFC 1035, section 3.3.1), and that of all records (RFC 1035, section 3.2.3).
-const CNAME: u16 = 5;
-
-const ANY: u16 = 255;
 
 /// What the records of a name say of a type.
 #[derive(Debug, Clone, Copy, PartialEq, Eq)]

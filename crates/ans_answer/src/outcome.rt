@@ -1,22 +1,16 @@
 //! What a zone says of a name.
-ghost use Rattle.std.specs.Prelude.{◌≡◌, ◌<◌, ◌≤◌, ◌-◌, ◌+◌, ◌∷◌, true, length, drop};
+ghost use Rattle.std.specs.Prelude.{◌≡◌, ◌<◌, ◌≤◌, ◌-◌, ◌+◌, ◌∷◌, true, length, drop, IfSome};
 ghost use Rattle.std.specs.Option.{option_map};
 ghost use Rattle.dns_names_wire.specs.Words.{is_in, is_same, wildcard};
 ghost use Rattle.ans_store.specs.Zones.{IsNode};
 ghost use Rattle.ans_answer.specs.Outcomes.{by_wildcard, is_delegation, is_sent, itself, outcome, sent_at};
-ghost use Rattle.ans_answer.specs.Seen.{outcome_seen};
+ghost use Rattle.ans_answer.specs.Seen.{HasRecords, outcome_seen};
 ghost use Rattle.ans_answer.specs.Inside.Ways.{EndsDown, IsWay};
 
+use crate::codes::{DNAME, DS, NS};
 use ans_store::lookup::Node;
 use ans_store::store::ZoneStore;
 use dns_names_wire::Name;
-
-/// The types NS (RFC 1035, section 3.3.11), DNAME (RFC 6672, section 2.1) and DS (RFC 4034, section 5).
-const NS: u16 = 2;
-
-const DNAME: u16 = 39;
-
-const DS: u16 = 43;
 
 /// What a zone says of a name: where the name leads to, and which records are owned there.
 #[derive(Debug, Clone, Copy, PartialEq, Eq)]
@@ -47,7 +41,8 @@ pub(crate) enum Way {
 /// Returns what a zone says of a name and a type.
 #[tactic(auto, unfolding(crate::specs::Outcomes::outcome))]
 pub fn outcome_of(zone: &ZoneStore<'_>, name: &Name, code: u16) -> Outcome
-    ensures { outcome_seen zone.now.records result ≡ outcome zone.now name.now.labels code }
+    ensures outcome { outcome_seen zone.now.records result ≡ outcome zone.now name.now.labels code }
+    ensures records { HasRecords zone.now.records result }
 {
     if !is_in(zone.apex(), name) {
         return Outcome::Outside;
@@ -59,7 +54,7 @@ pub fn outcome_of(zone: &ZoneStore<'_>, name: &Name, code: u16) -> Outcome
 }
 
 /// Returns `true` if a name is in a zone.
-fn is_in(zone: &Name, name: &Name) -> bool
+pub(crate) fn is_in(zone: &Name, name: &Name) -> bool
     ensures { result ≡ is_in zone.now.labels name.now.labels }
 {
     zone.zone_of(name)
@@ -87,14 +82,14 @@ fn way_down(zone: &ZoneStore<'_>, name: &Name) -> Way
 }
 
 /// Returns the number of labels of a name.
-fn count_of(name: &Name) -> usize
+pub(crate) fn count_of(name: &Name) -> usize
     ensures { result ≡ length name.now.labels }
 {
     usize::from(name.as_name_ref().num_labels())
 }
 
 /// Returns the last labels of a name.
-fn last_labels(name: &Name, count: usize) -> Name
+pub(crate) fn last_labels(name: &Name, count: usize) -> Name
     requires { count ≤ length name.now.labels }
     ensures { result.labels ≡ drop (length name.now.labels - count) name.now.labels }
 {
@@ -105,7 +100,8 @@ fn last_labels(name: &Name, count: usize) -> Name
 #[tactic(auto, unfolding(crate::specs::Outcomes::sent_at))]
 fn sent_at(zone: &ZoneStore<'_>, name: &Name, node: Node) -> Option<Outcome>
     requires { IsNode zone.now.records name.now.labels node }
-    ensures { option_map (outcome_seen zone.now.records) result ≡ sent_at zone.now name.now.labels }
+    ensures sent { option_map (outcome_seen zone.now.records) result ≡ sent_at zone.now name.now.labels }
+    ensures records { IfSome result (HasRecords zone.now.records) }
 {
     if is_delegation(zone, name, node) {
         Some(Outcome::Referral(node))
@@ -127,7 +123,7 @@ fn is_delegation(zone: &ZoneStore<'_>, name: &Name, node: Node) -> bool
 
 /// Returns `true` if names are the same, ignoring ASCII case.
 #[tactic(auto, unfolding(dns_names_wire::specs::Words::is_same))]
-fn is_same(name: &Name, other: &Name) -> bool
+pub(crate) fn is_same(name: &Name, other: &Name) -> bool
     ensures { result ≡ is_same name.now.labels other.now.labels }
 {
     name.as_name_ref().cmp_name(other).is_eq()
@@ -136,7 +132,8 @@ fn is_same(name: &Name, other: &Name) -> bool
 /// Returns what a name itself says, if none above it sends it away, and the way down to it ends after so many labels.
 fn itself(zone: &ZoneStore<'_>, name: &Name, code: u16, count: usize) -> Outcome
     requires { EndsDown zone.now name.now.labels count }
-    ensures { outcome_seen zone.now.records result ≡ itself zone.now name.now.labels code }
+    ensures outcome { outcome_seen zone.now.records result ≡ itself zone.now name.now.labels code }
+    ensures records { HasRecords zone.now.records result }
 {
     let node = zone.node(name);
     if is_sent(zone, name, node, code) {
@@ -170,7 +167,8 @@ fn wildcard_beside(name: &Name, count: usize) -> Name
 /// Returns what a wildcard says that may stand for a name.
 #[tactic(auto, unfolding(crate::specs::Outcomes::by_wildcard))]
 fn by_wildcard(zone: &ZoneStore<'_>, wild: &Name) -> Outcome
-    ensures { outcome_seen zone.now.records result ≡ by_wildcard zone.now wild.now.labels }
+    ensures outcome { outcome_seen zone.now.records result ≡ by_wildcard zone.now wild.now.labels }
+    ensures records { HasRecords zone.now.records result }
 {
     let node = zone.node(wild);
     if !node.exists {

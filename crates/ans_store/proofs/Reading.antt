@@ -28,7 +28,7 @@ leading_label : (n : ℕ) (l os rest : List ℕ) → 1 ≤ length l → os ≡ l
     → cond (eqb (length l) 0) [] (take (length l) os ∷ leading_labels n (drop (length l) os)) ≡ l ∷ leading_labels n rest
 leading_label n l os rest h is = rw (no_zero (length l) h, is, take_at l rest (length l) refl, drop_at l rest (length l) refl) refl
 
-leading : (n : ℕ) (ls : List (List ℕ)) (rest : List ℕ) → AllByRecursion IsLabel ls → length ls < n → leading_labels n (wire ls ++ rest) ≡ ls
+pub leading : (n : ℕ) (ls : List (List ℕ)) (rest : List ℕ) → AllByRecursion IsLabel ls → length ls < n → leading_labels n (wire ls ++ rest) ≡ ls
 leading zero ls rest each h = absurd (omega arith)
 leading (suc n) [] rest each h = refl
 leading (suc n) (l ∷ ls) rest each h =

@@ -5,3 +5,7 @@
 mod loads;
 #[cfg(test)]
 mod outcomes;
+#[cfg(test)]
+mod rows;
+#[cfg(test)]
+mod sections;

@@ -2,7 +2,7 @@
 use Rattle.std.specs.Prelude.{◌≡◌, ◌+◌, ◌-◌, ◌<◌, ◌≤◌, ℕ, false, List, length, drop, Some, None}
 use Rattle.ans_store.specs.Zones.{ZoneValue, name_exists}
 use Rattle.ans_answer.specs.Outcomes.{encloser, sent_above}
-use Rattle.ans_answer.specs.Seen.{outcome_seen}
+use Rattle.ans_answer.specs.Seen.{HasRecords, outcome_seen}
 use Rattle.ans_answer.specs.declared.outcome.Way.{Way}
 use Rattle.ans_answer.specs.declared.outcome.Way.TheVariants.{Ends, Sent}
 
@@ -14,5 +14,5 @@ pub record EndsDown (zone : ZoneValue) (name : List (List ℕ)) (count : ℕ) : 
   pub closest : name_exists name zone.records ≡ false → encloser zone name ≡ drop (length name - count + 1) name
 
 abbrev pub IsWay : ZoneValue → List (List ℕ) → Way → Type 0
-IsWay zone name (Sent outcome) = sent_above zone name ≡ Some (outcome_seen zone.records outcome)
+IsWay zone name (Sent outcome) = (sent_above zone name ≡ Some (outcome_seen zone.records outcome)) × HasRecords zone.records outcome
 IsWay zone name (Ends count) = EndsDown zone name count

@@ -3,12 +3,12 @@ use Rattle.std.proofs.Common.{sym, ◌∙◌}
 use Rattle.ans_answer.proofs.Down.{itself_missing, itself_sent, itself_there}
 use Rattle.ans_answer.proofs.outcome.itself.Goals as goal
 
-pub returns-then-is_sent : goal.returns-then-is_sent
-returns-then-is_sent c =
+pub returns-then-is_sent-clause-outcome : goal.returns-then-is_sent-clause-outcome
+returns-then-is_sent-clause-outcome c =
     itself_sent c.args.zone.now c.args.name.now.labels c.args.code _ (sym c.is_sent.ensures ∙ c.if-is_sent.true) c.node-node.ensures.owned
 
-pub returns-then-node : goal.returns-then-node
-returns-then-node c =
+pub returns-then-node-clause-outcome : goal.returns-then-node-clause-outcome
+returns-then-node-clause-outcome c =
     itself_there c.args.zone.now c.args.name.now.labels c.args.code _ (sym c.is_sent.ensures ∙ c.if-is_sent.false) (sym c.node-node.ensures.known ∙ c.if-node.true)
     c.node-node.ensures.owned
 
@@ -19,8 +19,8 @@ wildcard_beside-wild-requires c =
       within = c.requires.within;
     }
 
-pub returns : goal.returns
-returns c =
-    c.by_wildcard.ensures
+pub returns-clause-outcome : goal.returns-clause-outcome
+returns-clause-outcome c =
+    c.by_wildcard.ensures.outcome
     ∙ itself_missing c.args.zone.now c.args.name.now.labels c.wildcard_beside-wild.result.labels c.args.code c.args.count c.requires (sym c.is_sent.ensures ∙ c.if-is_sent.false)
     (sym c.node-node.ensures.known ∙ c.if-node.false) c.wildcard_beside-wild.ensures

@@ -19,7 +19,7 @@ down-preserved c =
     let there : name_exists (drop (length labels - c.down.count) labels) zone.records ≡ _ =
     ap (λ (n : List (List ℕ)). name_exists n zone.records) (sym c.last_labels-above.ensures) ∙ (sym c.node-node.ensures.known ∙ if_not_false _ c.if-not-node.false) in
     let none : sent_at zone (drop (length labels - c.down.count) labels) ≡ None =
-    ap (sent_at zone) (sym c.last_labels-above.ensures) ∙ sym c.in_default.ensures in
+    ap (sent_at zone) (sym c.last_labels-above.ensures) ∙ sym c.in_default.ensures.sent in
     down_more zone labels c.down.count c.down.invariant (omega (arith, c.down-test.true, c.count_of-last.ensures)) there none
 
 pub returns-then-not-node : goal.returns-then-not-node
@@ -35,8 +35,8 @@ returns-in-Some c =
     let zone = c.args.zone.now in
     let labels = c.args.name.now.labels in
     let sent : sent_at zone (drop (length labels - c.down.count) labels) ≡ _ =
-    ap (sent_at zone) (sym c.last_labels-above.ensures) ∙ sym c.in-Some.ensures in
-    sent_down zone labels c.down.count _ c.down.invariant (omega (arith, c.down-test.true, c.count_of-last.ensures)) sent
+    ap (sent_at zone) (sym c.last_labels-above.ensures) ∙ sym c.in-Some.ensures.sent in
+    (sent_down zone labels c.down.count _ c.down.invariant (omega (arith, c.down-test.true, c.count_of-last.ensures)) sent, c.in-Some.ensures.records)
 
 pub returns : goal.returns
 returns c =

@@ -1,0 +1,19 @@
+//! The codes of types that the rules of zones name.
+
+/// NS (RFC 1035, section 3.3.11).
+pub(crate) const NS: u16 = 2;
+
+/// CNAME (RFC 1035, section 3.3.1).
+pub(crate) const CNAME: u16 = 5;
+
+/// SOA (RFC 1035, section 3.3.13).
+pub(crate) const SOA: u16 = 6;
+
+/// DNAME (RFC 6672, section 2.1).
+pub(crate) const DNAME: u16 = 39;
+
+/// DS (RFC 4034, section 5).
+pub(crate) const DS: u16 = 43;
+
+/// All types (RFC 1035, section 3.2.3).
+pub(crate) const ANY: u16 = 255;
