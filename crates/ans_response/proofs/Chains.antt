@@ -1,20 +1,25 @@
 -- What follows from the definition of meanings.
 use Rattle.std.specs.Prelude.{if◌then◌else◌, option_and_then}
-use Rattle.std.proofs.Common.{◌≡◌, min, ◌<◌, ◌-◌, arith, ◌==◌, ◌&&◌, ℕ, zero, suc, Bool, true, false, not, List, [], ◌∷◌, Option, Some, None, Result, Ok, Err, find, refl, sym, ap, ◌∙◌, subst, true≢false}
-use Rattle.dns_names_wire.specs.Words.{MessageValue, RecordValue, is_in, is_same, ns_code}
-use Rattle.ans_response.specs.Counted.{AskedValue, Seen, Targets, counted}
-use Rattle.ans_response.specs.Laws.{DataAreThere, MissingNamesHaveNoData, NoDataAreThere, OthersChangeNothing, ReferralsLeadDown}
+use Rattle.std.proofs.Common.{◌≡◌, min, ◌<◌, ◌-◌, arith, ◌==◌, ◌&&◌, ℕ, zero, suc, Bool, true, false, not, List, [], ◌∷◌, Option, Some, None, Result, Ok, Err, find, refl, sym, ap, ◌∙◌, subst, inl, inr, true≢false}
+use Rattle.dns_names_wire.specs.Words.{MessageValue, RecordValue, is_in, is_same, class_code, ns_code, soa_code}
+use Rattle.ans_response.specs.Counted.{AskedValue, Seen, Targets, counted, counts, seen}
+use Rattle.ans_response.specs.Laws.{DataAreThere, MissingNamesHaveNoData, NoDataAreThere, OthersChangeNothing, ReferralsLeadDown, ZonesDenyTheirNames}
 use Rattle.ans_response.specs.Meanings.{Alias, Data, Heard, Lame, Means, Meant, NegativeValue, NoAnswer, NoData, NoName, On, Referral, Step, at_end, by_alias, by_checked, by_class, by_delegation, by_negative, by_next, checked, class_asked, code_of, failed, first, has_data, heard_of, is_below, is_error, is_query, is_sought, meaning, meant_by, negative, negative_of, next_name, on_or_out, step, unsaid, without_soa}
 use Rattle.ans_response.specs.declared.reason.Reason.{Reason}
 use Rattle.ans_response.specs.declared.reason.Reason.TheVariants as reason
 use Rattle.ans_response.specs.declared.sought.Sought.TheVariants as sought
 
+-- A zone that says that there is nothing is in the one that was asked, and the name is in it.
+abbrev IsOfZone : AskedValue → List (List ℕ) → Option NegativeValue → Type 0
+IsOfZone asked name None = Unit {0}
+IsOfZone asked name (Some said) = (is_in asked.zone said.zone ≡ true) × (is_in said.zone name ≡ true)
+
 -- What is said of a name agrees with its data, and a referral leads down.
 abbrev IsFair : AskedValue → Heard → Meant → Type 0
 IsFair asked heard (NoAnswer why) = Unit {0}
 IsFair asked heard (Data name) = has_data asked heard.answers name ≡ true
-IsFair asked heard (NoData name said) = has_data asked heard.answers name ≡ false
-IsFair asked heard (NoName name said) = has_data asked heard.answers name ≡ false
+IsFair asked heard (NoData name said) = (has_data asked heard.answers name ≡ false) × IsOfZone asked name said
+IsFair asked heard (NoName name said) = (has_data asked heard.answers name ≡ false) × IsOfZone asked name said
 IsFair asked heard (Referral cut) = is_below asked.zone cut ≡ true
 IsFair asked heard (Alias name) = Unit {0}
 IsFair asked heard Lame = Unit {0}
@@ -39,7 +44,40 @@ found_is p (x ∷ xs) s h = by (p x) refl (λ g. found_is p xs s g)
     by true met more = let same : x ≡ s = cc (rw met at h) in subst (λ (y : Seen). p y ≡ true) same met
     by false unmet more = more (rw unmet at h)
 
-module _ (asked : AskedValue) (heard : Heard) where
+-- What is found among the records that count is in the zone.
+counted_in : (target : Targets) (asked : AskedValue) (records : List RecordValue) (p : Seen → Bool) (s : Seen)
+    → find p (counted target asked records) ≡ Some s → is_in asked.zone s.owner ≡ true
+unfolding counted
+counted_in target asked [] p s h = cc
+counted_in target asked (r ∷ records) p s h = by (counts asked r) refl (λ g. counted_in target asked records p s g)
+  where
+    by : (b : Bool) → counts asked r ≡ b → (find p (counted target asked records) ≡ Some s → is_in asked.zone s.owner ≡ true) → is_in asked.zone s.owner ≡ true
+    by true met more = first (p (seen target r)) refl (rw met at h)
+      where
+        first : (b : Bool) → p (seen target r) ≡ b → find p (seen target r ∷ counted target asked records) ≡ Some s → is_in asked.zone s.owner ≡ true
+        first true fits g =
+            let same : seen target r ≡ s = cc (rw fits at g) in
+            subst (λ (x : Seen). is_in asked.zone x.owner ≡ true) same (first_true (is_in asked.zone r.owner) (class_code r.class == asked.class) met)
+        first false misses g = more (rw misses at g)
+    by false unmet more = more (rw unmet at h)
+
+negative_in : (asked : AskedValue) (records : List Seen) (name : List (List ℕ)) → ((p : Seen → Bool) (s : Seen) → find p records ≡ Some s → is_in asked.zone s.owner ≡ true)
+    → IsOfZone asked name (negative asked records name)
+unfolding negative first is_sought
+negative_in asked records name all = by (first asked name sought.Start records) refl
+  where
+    by : (x : Option Seen) → first asked name sought.Start records ≡ x → IsOfZone asked name (option_and_then (λ soa. negative_of soa soa.minimum) x)
+    by None h = tt
+    by (Some soa) h = at soa.minimum
+      where
+        at : (minimum : Option ℕ) → IsOfZone asked name (negative_of soa minimum)
+        at None = tt
+        at (Some least) = (
+          all (λ s. is_sought asked name sought.Start s.owner s.code) soa h,
+          second_true (soa.code == soa_code) (is_in soa.owner name) (found_is (λ s. is_sought asked name sought.Start s.owner s.code) records soa h),
+        )
+
+module _ (asked : AskedValue) (heard : Heard) (all : (p : Seen → Bool) (s : Seen) → find p heard.authorities ≡ Some s → is_in asked.zone s.owner ≡ true) where
   cut_below : (name : List (List ℕ)) (ns : Seen) → first asked name sought.Delegation heard.authorities ≡ Some ns → is_below asked.zone ns.owner ≡ true
   unfolding first is_sought
   cut_below name ns h =
@@ -49,13 +87,13 @@ module _ (asked : AskedValue) (heard : Heard) where
 
   fair_unsaid : (a b : Bool) (name : List (List ℕ)) → has_data asked heard.answers name ≡ false → IsFair asked heard (unsaid a b name)
   fair_unsaid true b name h = tt
-  fair_unsaid false true name h = h
+  fair_unsaid false true name h = (h, tt)
   fair_unsaid false false name h = tt
 
   fair_cut : (a b : Bool) (name : List (List ℕ)) (ns : Seen) → has_data asked heard.answers name ≡ false → is_below asked.zone ns.owner ≡ true
       → IsFair asked heard (by_delegation a b name (Some ns))
   fair_cut true b name ns h below = below
-  fair_cut false true name ns h below = h
+  fair_cut false true name ns h below = (h, tt)
   fair_cut false false name ns h below = below
 
   fair_without : (name : List (List ℕ)) → has_data asked heard.answers name ≡ false → IsFair asked heard (without_soa asked heard name)
@@ -67,18 +105,18 @@ module _ (asked : AskedValue) (heard : Heard) where
       by None is = fair_unsaid (not (is_same name asked.name)) heard.authoritative name h
       by (Some ns) is = fair_cut (not (is_same name asked.name)) heard.authoritative name ns h (cut_below name ns is)
 
-  fair_negative : (name : List (List ℕ)) (said : Option NegativeValue) → has_data asked heard.answers name ≡ false
+  fair_negative : (name : List (List ℕ)) (said : Option NegativeValue) → has_data asked heard.answers name ≡ false → IsOfZone asked name said
       → IsFair asked heard (by_negative asked heard name said)
-  fair_negative name None h = fair_without name h
-  fair_negative name (Some said) h = h
+  fair_negative name None h zone = fair_without name h
+  fair_negative name (Some said) h zone = (h, zone)
 
   fair_end : (name : List (List ℕ)) → has_data asked heard.answers name ≡ false → IsFair asked heard (at_end asked heard name)
   unfolding at_end
   fair_end name h = by heard.no_name
     where
       by : (b : Bool) → IsFair asked heard (if b then NoName name (negative asked heard.authorities name) else by_negative asked heard name (negative asked heard.authorities name))
-      by true = h
-      by false = fair_negative name (negative asked heard.authorities name) h
+      by true = (h, negative_in asked heard.authorities name all)
+      by false = fair_negative name (negative asked heard.authorities name) h (negative_in asked heard.authorities name all)
 
   fair_out : (next : List (List ℕ)) → IsFairStep asked heard (on_or_out asked next)
   fair_out next = by (is_in asked.zone next)
@@ -119,10 +157,10 @@ module _ (asked : AskedValue) (heard : Heard) where
 module _ (target : Targets) (m : MessageValue) (name : List (List ℕ)) (code : ℕ) (zone : List (List ℕ)) where
   fair : (asked : AskedValue) (meant : Meant) → checked m name code zone ≡ Ok asked → meaning target m name code zone ≡ meant
       → IsFair asked (heard_of target asked m) meant
-  unfolding meaning
+  unfolding meaning heard_of
   fair asked meant ok is =
       let same : meant_by 17 asked (heard_of target asked m) asked.name ≡ meant = ap (by_checked target m) (sym ok) ∙ is in
-      subst (IsFair asked (heard_of target asked m)) same (fair_by asked (heard_of target asked m) 17 asked.name)
+      subst (IsFair asked (heard_of target asked m)) same (fair_by asked (heard_of target asked m) (counted_in target asked m.authorities) 17 asked.name)
 
   class_zone : (class : Result ℕ Reason) (asked : AskedValue) → by_class (code_of m) m.header.metadata.truncation name code zone class ≡ Ok asked → asked.zone ≡ zone
   class_zone (Err why) asked h = cc
@@ -149,11 +187,11 @@ data_are_there target m name code zone last asked ok is = fair target m name cod
 
 pub no_data_are_there : NoDataAreThere
 unfolding heard_of
-no_data_are_there target m name code zone last said asked ok is = fair target m name code zone asked (NoData last said) ok is
+no_data_are_there target m name code zone last said asked ok is = (fair target m name code zone asked (NoData last said) ok is).0
 
 pub missing_names_have_no_data : MissingNamesHaveNoData
 unfolding heard_of
-missing_names_have_no_data target m name code zone last said asked ok is = fair target m name code zone asked (NoName last said) ok is
+missing_names_have_no_data target m name code zone last said asked ok is = (fair target m name code zone asked (NoName last said) ok is).0
 
 no_referral : (target : Targets) (m : MessageValue) (name : List (List ℕ)) (code : ℕ) (zone cut : List (List ℕ)) (why : Reason)
     → checked m name code zone ≡ Err why → meaning target m name code zone ≡ Referral cut → ⊥
@@ -167,6 +205,26 @@ referrals_lead_down target m name code zone cut is = by (checked m name code zon
     by (Err why) bad = absurd (no_referral target m name code zone cut why bad is)
     by (Ok asked) ok =
         subst (λ (z : List (List ℕ)). is_below z cut ≡ true) (checked_zone target m name code zone asked ok) (fair target m name code zone asked (Referral cut) ok is)
+
+no_answer_is : (target : Targets) (m : MessageValue) (name : List (List ℕ)) (code : ℕ) (zone : List (List ℕ)) (why : Reason)
+    → checked m name code zone ≡ Err why → meaning target m name code zone ≡ NoAnswer why
+unfolding meaning
+no_answer_is target m name code zone why bad = ap (by_checked target m) bad
+
+pub zones_deny_their_names : ZonesDenyTheirNames
+zones_deny_their_names target m name code zone last said either = by (checked m name code zone) refl
+  where
+    by : (x : Result AskedValue Reason) → checked m name code zone ≡ x → (is_in zone said.zone ≡ true) × (is_in said.zone last ≡ true)
+    by (Err why) bad =
+        let none = no_answer_is target m name code zone why bad in
+        elim either [ inl is ↦ absurd (cc (none, is)) | inr is ↦ absurd (cc (none, is)) ]
+    by (Ok asked) ok =
+        let P : List (List ℕ) → Type 0 = λ z. (is_in z said.zone ≡ true) × (is_in said.zone last ≡ true) in
+        subst P (checked_zone target m name code zone asked ok)
+        (elim either [
+          | inl is ↦ (fair target m name code zone asked (NoData last (Some said)) ok is).1
+          | inr is ↦ (fair target m name code zone asked (NoName last (Some said)) ok is).1
+        ])
 
 -- ---- two messages
 

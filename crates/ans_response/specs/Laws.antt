@@ -1,6 +1,6 @@
 -- What follows from the definition of meanings. Each is the clause of a public function, and so proved.
-use Rattle.std.specs.Prelude.{◌≡◌, ℕ, true, false, Ok, Option, List}
-use Rattle.dns_names_wire.specs.Words.{MessageValue, RecordValue}
+use Rattle.std.specs.Prelude.{◌⊎◌, Some, ◌≡◌, ℕ, true, false, Ok, Option, List}
+use Rattle.dns_names_wire.specs.Words.{MessageValue, RecordValue, is_in}
 use Rattle.ans_response.specs.Counted.{AreTargets, AskedValue, Targets, counted}
 use Rattle.ans_response.specs.Meanings.{Data, NegativeValue, NoData, NoName, Referral, checked, code_of, has_data, is_below, meaning}
 
@@ -37,6 +37,12 @@ NoDataAreThere = (target : Targets) (m : MessageValue) (name : List (List ℕ)) 
 abbrev pub MissingNamesHaveNoData : Type 0
 MissingNamesHaveNoData = (target : Targets) (m : MessageValue) (name : List (List ℕ)) (code : ℕ) (zone last : List (List ℕ)) (said : Option NegativeValue) (asked : AskedValue)
     → checked m name code zone ≡ Ok asked → meaning target m name code zone ≡ NoName last said → has_data asked (counted target asked m.answers) last ≡ false
+
+-- Only a zone that is in the one that was asked, and that the name is in, says that there is nothing.
+abbrev pub ZonesDenyTheirNames : Type 0
+ZonesDenyTheirNames = (target : Targets) (m : MessageValue) (name : List (List ℕ)) (code : ℕ) (zone last : List (List ℕ)) (said : NegativeValue)
+    → (meaning target m name code zone ≡ NoData last (Some said)) ⊎ (meaning target m name code zone ≡ NoName last (Some said))
+    → (is_in zone said.zone ≡ true) × (is_in said.zone last ≡ true)
 
 -- A referral leads to a name below the zone, never to it, up or sideways.
 abbrev pub ReferralsLeadDown : Type 0

@@ -1,7 +1,7 @@
 //! What follows from the definition of meanings, for callers' proofs.
 //!
 //! The functions do nothing. Each is there for its clauses.
-ghost use Rattle.ans_response.specs.Laws.{DataAreThere, MissingNamesHaveNoData, NoDataAreThere, OneReading, OthersChangeNothing, ReferralsLeadDown, TargetsAreRead};
+ghost use Rattle.ans_response.specs.Laws.{DataAreThere, MissingNamesHaveNoData, NoDataAreThere, OneReading, OthersChangeNothing, ReferralsLeadDown, TargetsAreRead, ZonesDenyTheirNames};
 
 use dns_names_wire::name::laws as names;
 
@@ -24,6 +24,11 @@ pub fn data_are_there()
     ensures data { DataAreThere }
     ensures no_data { NoDataAreThere }
     ensures no_name { MissingNamesHaveNoData }
+{}
+
+/// Only a zone that is in the one that was asked, and that the name is in, says that there is nothing.
+pub fn zones_deny_their_names()
+    ensures { ZonesDenyTheirNames }
 {}
 
 /// A referral leads to a name below the zone, never to the zone itself, up or sideways.
