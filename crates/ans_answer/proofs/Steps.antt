@@ -1,19 +1,18 @@
 -- Answers that are made name by name.
-use Rattle.std.proofs.Common.{◌≡◌, ℕ, zero, suc, ◌+◌, ◌-◌, ◌<◌, ◌≤◌, ◌||◌, Bool, true, false, cond, List, [], ◌∷◌, ◌++◌, length, map, get_or, take, Option, Some, None, Result, Ok, Err, IfOk, IfSome, IfNone, not, eqb, refl, sym, ap, ◌∙◌, subst, arith}
+use Rattle.std.proofs.Common.{◌≡◌, ℕ, suc, ◌+◌, ◌-◌, ◌<◌, ◌≤◌, ◌||◌, Bool, true, false, List, [], ◌∷◌, ◌++◌, length, map, get_or, take, Option, Some, None, Result, Ok, Err, IfOk, IfSome, IfNone, not, eqb, refl, sym, ap, ◌∙◌, subst, arith}
 use Rattle.std.proofs.Math.Bool.{or-true}
 use Rattle.std.proofs.Math.Seq.{get_or-append_seam, take-length}
 use Rattle.std.proofs.lemmas.Bool.Decides.{nat_tests}
 use Rattle.std.proofs.lemmas.List.{append-nil, append_assoc, get_or_append_left, length-append, length-map, map-append, map_push, nil_from_length}
 use Rattle.std.proofs.lemmas.List.Folds.{list_any_at, list_any_more}
 use Rattle.std.specs.List.{list_any}
-use Rattle.std.specs.Option.{option_map, option_to_list}
 use Rattle.dns_names_wire.specs.Words.{NameValue, RecordValue, cname_code, dname_code, is_same, ns_code}
 use Rattle.ans_store.specs.Zones.{ZoneValue}
 use Rattle.ans_store.specs.declared.lookup.Node.{Node}
 use Rattle.ans_answer.specs.Answers.{Lead, by_kind, referred, Cname, Dname, Part, Kept, Made, Named, ZoneAnswer, follow, has_parts, is_met, joined, lead, led, links, of_type, said, silent}
 use Rattle.ans_answer.specs.Inside.Steps.{EndsAs, EndsTurn, GoesOn, IsSaid, IsUpTo, Others, TurnsTo, link_parts}
 use Rattle.ans_answer.specs.Seen.{all_labels, answer_seen, labels_at, lead_seen, names_of, next_seen, node_records, part_seen, parts_seen}
-use Rattle.ans_answer.specs.Targets.{Next, To, Nowhere, TooLong}
+use Rattle.ans_answer.specs.Targets.{Next, To}
 use Rattle.ans_answer.specs.declared.answer.Answer.{Answer}
 use Rattle.ans_answer.specs.declared.answer.Part.{Part as FoundPart}
 use Rattle.ans_answer.specs.declared.answer.Part.TheVariants as parts

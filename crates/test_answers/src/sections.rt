@@ -45,10 +45,19 @@ fn add_records(
     Ok(())
 }
 
+/// Returns the name of a number: 0 is that of the name that was asked for.
+fn name_of<'n>(asked: &'n Name, answer: &'n Answer, number: usize) -> &'n Name {
+    if number == 0 {
+        return asked;
+    }
+    &answer.names[number - 1]
+}
+
 /// Adds the lines of a part of a section.
 fn add_part(
     alloc: Global,
     zone: &ZoneStore<'_>,
+    asked: &Name,
     answer: &Answer,
     section: &str,
     part: Part,
@@ -57,12 +66,12 @@ fn add_part(
     match part {
         Part::Kept(node, code) => add_records(alloc, zone, section, None, node, code, lines)?,
         Part::Named(number, node, code) => {
-            let owner = answer.names.get(number);
-            add_records(alloc, zone, section, owner, node, code, lines)?;
+            let owner = name_of(asked, answer, number);
+            add_records(alloc, zone, section, Some(owner), node, code, lines)?;
         }
         Part::Made(number, node) => {
-            let owner = answer.names[number].to_text(alloc)?;
-            let target = answer.names[number + 1].to_text(alloc)?;
+            let owner = name_of(asked, answer, number).to_text(alloc)?;
+            let target = name_of(asked, answer, number + 1).to_text(alloc)?;
             let ttl = zone.get(node.start).ttl();
             lines.push(format!(in alloc; "{section} {owner} {ttl} CNAME {target}")?)?;
         }
@@ -84,6 +93,7 @@ fn add_part(
 fn lines_of(
     alloc: Global,
     zone: &ZoneStore<'_>,
+    asked: &Name,
     answer: &Answer,
 ) -> Result<Vec<String>, Fail> {
     let mut lines = Vec::new(alloc);
@@ -95,11 +105,14 @@ fn lines_of(
     };
     let flag = if answer.is_authoritative { " aa" } else { "" };
     lines.push(format!(in alloc; "{rcode}{flag}")?)?;
-    for part in &answer.answers {
-        add_part(alloc, zone, answer, "an", *part, &mut lines)?;
+    for part in answer.aliases.as_slice() {
+        add_part(alloc, zone, asked, answer, "an", *part, &mut lines)?;
+    }
+    if let Some(part) = answer.data {
+        add_part(alloc, zone, asked, answer, "an", part, &mut lines)?;
     }
     if let Some(part) = answer.authority {
-        add_part(alloc, zone, answer, "au", part, &mut lines)?;
+        add_part(alloc, zone, asked, answer, "au", part, &mut lines)?;
     }
     Ok(lines)
 }
@@ -112,9 +125,9 @@ fn each_question_has_the_sections_that_servers_give_it(rt: HostRuntime) -> Resul
     let zone = ZoneStore::load(alloc, apex, octets.as_slice())?;
     for (name, record_type, wanted) in ROWS {
         let asked = Name::from_text(alloc, name, None)?;
-        let code = RecordType::from_text(record_type)?.code();
-        let answer = answer_of(alloc, &zone, &asked, code);
-        let lines = lines_of(alloc, &zone, &answer)?;
+        let code = RecordType::from_text(record_type).expect(&rt, "a type").code();
+        let answer = answer_of(alloc, &zone, &asked, code)?;
+        let lines = lines_of(alloc, &zone, &asked, &answer)?;
         let mut count = 0;
         for line in wanted.split('\n') {
             if !line.starts_with("ad ") {

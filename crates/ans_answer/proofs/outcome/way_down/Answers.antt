@@ -1,7 +1,7 @@
 -- The way down is one label longer with each turn.
-use Rattle.std.proofs.Common.{◌≡◌, ◌-◌, ◌<◌, ℕ, List, Option, Some, None, length, drop, ap, sym, subst, ◌∙◌, arith}
+use Rattle.std.proofs.Common.{◌≡◌, ◌-◌, ℕ, List, None, length, drop, ap, sym, subst, ◌∙◌, arith}
 use Rattle.ans_store.specs.Zones.{name_exists}
-use Rattle.ans_answer.specs.Outcomes.{ZoneOutcome, sent_at}
+use Rattle.ans_answer.specs.Outcomes.{sent_at}
 use Rattle.ans_answer.proofs.Down.{IsDown, down_more, down_starts, ends_before, ends_there, if_not_false, if_not_true, sent_down}
 use Rattle.ans_answer.proofs.outcome.way_down.Goals as goal
 

@@ -2,7 +2,7 @@
 use Rattle.std.proofs.Common.{◌≡◌, ◌∙◌, true, ap, sym, rules}
 use Rattle.std.specs.Result.{IsOkAnd}
 use Rattle.ans_store.proofs.Reading.{ok_holds}
-use Rattle.dns_names_wire.specs.Words.{NameValue, TakesName, encoded_size}
+use Rattle.dns_names_wire.specs.Words.{NameValue, encoded_size}
 use Rattle.ans_answer.proofs.Targets.{is_whole, reads_whole}
 use Rattle.ans_answer.proofs.target.name_of.Goals as goal
 
