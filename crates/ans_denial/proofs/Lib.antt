@@ -1,0 +1,10 @@
+pub mod Names
+pub mod Sending
+pub mod Covers
+pub mod Covering
+pub mod Holding
+pub mod Sound
+pub mod Steps
+pub mod Hashed
+pub mod HashSteps
+pub mod HashTests

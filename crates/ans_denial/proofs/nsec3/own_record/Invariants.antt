@@ -1,0 +1,6 @@
+use Rattle.ans_denial.specs.Hashes.{has_hash}
+use Rattle.ans_denial.proofs.HashSteps.{IsFrom}
+use Rattle.ans_denial.proofs.nsec3.own_record.Given as goal
+
+abbrev pub invariant-records : goal.invariant-records
+invariant-records l = IsFrom (has_hash l.hash) l.nsecs l.nsec-index

@@ -1,0 +1,27 @@
+//! What follows from the definitions of denial, for callers' proofs.
+//!
+//! The functions do nothing: each exists for its clauses.
+ghost use Rattle.ans_denial.specs.HashedChains.{ExpansionsAreSound, HashedDenialsAreSound};
+ghost use Rattle.ans_denial.specs.Soundness.{DenialsAreSound, EnclosersAreSound};
+
+use dns_names_wire::sort_key::laws;
+
+/// Whatever NSEC records of a zone's chain are given, what they prove is what the zone says: if they prove that there is no such name, the
+/// zone says so, and if they prove that there are no records of a type, it has none. And a closest encloser that they prove is the one
+/// whose wildcard stands for the name.
+pub fn denials_are_sound()
+    ensures denials { DenialsAreSound }
+    ensures enclosers { EnclosersAreSound }
+{
+    laws::keys_compare();
+    laws::zones_begin();
+}
+
+/// The same of the NSEC3 records of a zone's chain, if no name of the zone has the hash of another that is hashed. Where delegations without
+/// DS records may be left out, a name that may be one of them is never found to be missing.
+///
+/// And the answer of a wildcard that the zone has is the one for a name if the records prove that no name nearer exists.
+pub fn hashed_denials_are_sound()
+    ensures denials { HashedDenialsAreSound }
+    ensures expansions { ExpansionsAreSound }
+{}
