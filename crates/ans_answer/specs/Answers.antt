@@ -13,19 +13,19 @@ use Rattle.ans_answer.specs.declared.kind.Kind.{Kind}
 use Rattle.ans_answer.specs.declared.kind.Kind.TheVariants.{Alias, NoData, Records}
 
 -- the records of a type among those of a name, and all if all are asked for
-unfoldable pub of_type : ℕ → List RecordValue → List RecordValue
-of_type code records = filter (is_wanted code) records
+unfoldable pub records_of_type : ℕ → List RecordValue → List RecordValue
+records_of_type code records = filter (is_wanted code) records
 
 -- Records that a section of a response has.
-pub data Part : Type 0 where
+pub data SectionPart : Type 0 where
   -- records of the zone
-  Kept : List RecordValue → Part
+  Kept : List RecordValue → SectionPart
   -- records of the zone with this name as owner, which is asked for: they are its own, or those of a wildcard (RFC 4592, section 3.3.1)
-  Named : List (List ℕ) → List RecordValue → Part
+  Named : List (List ℕ) → List RecordValue → SectionPart
   -- a CNAME record with this owner and this target, made of a DNAME record, whose TTL it has (RFC 6672, section 3.1)
-  Made : List (List ℕ) → List RecordValue → List (List ℕ) → Part
+  Made : List (List ℕ) → List RecordValue → List (List ℕ) → SectionPart
   -- the SOA record, for as long as it denies: its TTL or its minimum, whichever is less (RFC 2308, sections 3 and 5)
-  Denying : List RecordValue → Part
+  Denying : List RecordValue → SectionPart
 
 -- The minimum is the last field of an SOA record (RFC 1035, section 3.3.13).
 abbrev pub minimum_at : List ℕ → ℕ → ℕ
@@ -41,8 +41,8 @@ pub record ZoneAnswer : Type 0 where
   pub code : Rcode
   -- AA: the zone has authority for the first owner of the answer section, or for what is denied (RFC 1035, section 4.1.1)
   pub authoritative : Bool
-  pub answers : List Part
-  pub authority : Option Part
+  pub answers : List SectionPart
+  pub authority : Option SectionPart
 
 -- ---- a name that is no alias
 
@@ -53,29 +53,29 @@ silent code = record { code = code; authoritative = true; answers = []; authorit
 -- There are no such records, or no such name (RFC 2308, sections 2.1 and 2.2).
 abbrev pub denied : ZoneValue → Rcode → ZoneAnswer
 denied zone code =
-    record { code = code; authoritative = true; answers = []; authority = Some (Denying (of_type soa_code (owned_by zone.apex zone.records))) }
+    record { code = code; authoritative = true; answers = []; authority = Some (Denying (records_of_type soa_code (owned_by zone.apex zone.records))) }
 
 -- Others have authority (RFC 1034, section 4.3.2, step 3b).
 abbrev pub referred : List RecordValue → ZoneAnswer
-referred records = record { code = NoError; authoritative = false; answers = []; authority = Some (Kept (of_type ns_code records)) }
+referred records = record { code = NoError; authoritative = false; answers = []; authority = Some (Kept (records_of_type ns_code records)) }
 
-abbrev pub answered : List Part → ZoneAnswer
+abbrev pub answered : List SectionPart → ZoneAnswer
 answered parts = record { code = NoError; authoritative = true; answers = parts; authority = None }
 
 -- what records of a name, or of its wildcard, say of a type
 abbrev pub by_kind : ZoneValue → List (List ℕ) → ℕ → List RecordValue → Kind → ZoneAnswer
-by_kind zone name code records Records = answered (Named name (of_type code records) ∷ [])
+by_kind zone name code records Records = answered (Named name (records_of_type code records) ∷ [])
 by_kind zone name code records Alias = silent NoError
 by_kind zone name code records NoData = denied zone NoError
 
 -- A name outside the zone, to which an alias leads, is left to who asked.
-abbrev pub ended : ZoneValue → List (List ℕ) → ℕ → ZoneOutcome → ZoneAnswer
-ended zone name code Outside = silent NoError
-ended zone name code (Referral records) = referred records
-ended zone name code (Redirect records) = silent NoError
-ended zone name code (Exact records) = by_kind zone name code records (kind records code)
-ended zone name code (Synthesised records) = by_kind zone name code records (kind records code)
-ended zone name code NoName = denied zone NXDomain
+abbrev pub of_outcome : ZoneValue → List (List ℕ) → ℕ → ZoneOutcome → ZoneAnswer
+of_outcome zone name code Outside = silent NoError
+of_outcome zone name code (Referral records) = referred records
+of_outcome zone name code (Redirect records) = silent NoError
+of_outcome zone name code (Exact records) = by_kind zone name code records (kind records code)
+of_outcome zone name code (Synthesised records) = by_kind zone name code records (kind records code)
+of_outcome zone name code NoName = denied zone NXDomain
 
 -- ---- aliases
 
@@ -89,14 +89,14 @@ pub data Lead : Type 0 where
   Dname : List RecordValue → Next → Lead
 
 abbrev pub lead_by_kind : ZoneOutcome → List RecordValue → Kind → Lead
-lead_by_kind o records Alias = Cname (of_type cname_code records) (renamed (of_type cname_code records))
+lead_by_kind o records Alias = Cname (records_of_type cname_code records) (renamed (records_of_type cname_code records))
 lead_by_kind o records Records = Stays o
 lead_by_kind o records NoData = Stays o
 
 abbrev pub lead_by : List (List ℕ) → ℕ → ZoneOutcome → Lead
 lead_by name code Outside = Stays Outside
 lead_by name code (Referral records) = Stays (Referral records)
-lead_by name code (Redirect records) = Dname (of_type dname_code records) (redirected name (of_type dname_code records))
+lead_by name code (Redirect records) = Dname (records_of_type dname_code records) (redirected name (records_of_type dname_code records))
 lead_by name code (Exact records) = lead_by_kind (Exact records) records (kind records code)
 lead_by name code (Synthesised records) = lead_by_kind (Synthesised records) records (kind records code)
 lead_by name code NoName = Stays NoName
@@ -105,18 +105,18 @@ unfoldable pub lead : ZoneValue → List (List ℕ) → ℕ → Lead
 lead zone name code = lead_by name code (outcome zone name code)
 
 -- What the answer section has of an alias (RFC 1034, section 4.3.2, step 3a; RFC 6672, section 3.2).
-abbrev pub links : List (List ℕ) → List RecordValue → Next → List Part
+abbrev pub links : List (List ℕ) → List RecordValue → Next → List SectionPart
 links name records (To next) = Kept records ∷ Made name records next ∷ []
 links name records Nowhere = Kept records ∷ []
 links name records TooLong = Kept records ∷ []
 
-abbrev pub has_parts : List Part → Bool
+abbrev pub has_parts : List SectionPart → Bool
 has_parts [] = false
 has_parts (part ∷ parts) = true
 
 -- A response begins with these parts: if there are some, the zone has authority for the first owner.
-abbrev pub joined : List Part → ZoneAnswer → ZoneAnswer
-joined parts a = record { code = a.code; authoritative = has_parts parts || a.authoritative; answers = parts ++ a.answers; authority = a.authority }
+abbrev pub begun_with : List SectionPart → ZoneAnswer → ZoneAnswer
+begun_with parts a = record { code = a.code; authoritative = has_parts parts || a.authoritative; answers = parts ++ a.answers; authority = a.authority }
 
 -- The name was asked for before: it is one of these.
 unfoldable pub is_met : List (List (List ℕ)) → List (List ℕ) → Bool
@@ -131,9 +131,9 @@ led others names Nowhere = silent NoError
 led others names TooLong = silent YXDomain
 
 abbrev pub said : (List (List (List ℕ)) → List (List ℕ) → ZoneAnswer) → ZoneValue → ℕ → List (List (List ℕ)) → List (List ℕ) → Lead → ZoneAnswer
-said others zone code names name (Stays o) = ended zone name code o
-said others zone code names name (Cname records next) = joined (Named name records ∷ []) (led others names next)
-said others zone code names name (Dname records next) = joined (links name records next) (led others names next)
+said others zone code names name (Stays o) = of_outcome zone name code o
+said others zone code names name (Cname records next) = begun_with (Named name records ∷ []) (led others names next)
+said others zone code names name (Dname records next) = begun_with (links name records next) (led others names next)
 
 -- What is said of a name, the last of these that were asked for, if so many aliases are followed at most.
 unfoldable pub follow : ZoneValue → ℕ → ℕ → List (List (List ℕ)) → List (List ℕ) → ZoneAnswer

@@ -3,7 +3,7 @@ use Rattle.std.specs.Prelude.{ℕ, ◌+◌, ◌≤◌, List, [], ◌∷◌, ◌+
 use Rattle.std.specs.Option.{option_map, option_to_list}
 use Rattle.dns_names_wire.specs.Words.{NameValue, RecordValue, cname_code, dname_code, soa_code}
 use Rattle.ans_store.specs.declared.lookup.Node.{Node}
-use Rattle.ans_answer.specs.Answers.{Lead, Cname, Dname, Stays, Part, Denying, Kept, Made, Named, ZoneAnswer, of_type}
+use Rattle.ans_answer.specs.Answers.{Lead, Cname, Dname, Stays, SectionPart, Denying, Kept, Made, Named, ZoneAnswer, records_of_type}
 use Rattle.ans_answer.specs.Outcomes.{ZoneOutcome, Exact, NoName, Outside, Redirect, Referral, Synthesised}
 use Rattle.ans_answer.specs.Targets.{Next, Nowhere, To, TooLong}
 use Rattle.ans_answer.specs.declared.answer.Answer.{Answer}
@@ -49,8 +49,8 @@ next_seen nexts.TooLong = TooLong
 
 abbrev pub lead_seen : List RecordValue → FoundLead → Lead
 lead_seen records (leads.Stays outcome) = Stays (outcome_seen records outcome)
-lead_seen records (leads.Cname node next) = Cname (of_type cname_code (node_records records node)) (next_seen next)
-lead_seen records (leads.Dname node next) = Dname (of_type dname_code (node_records records node)) (next_seen next)
+lead_seen records (leads.Cname node next) = Cname (records_of_type cname_code (node_records records node)) (next_seen next)
+lead_seen records (leads.Dname node next) = Dname (records_of_type dname_code (node_records records node)) (next_seen next)
 
 abbrev pub LeadHasRecords : List RecordValue → FoundLead → Type 0
 LeadHasRecords records (leads.Stays outcome) = HasRecords records outcome
@@ -61,16 +61,16 @@ abbrev pub all_labels : List NameValue → List (List (List ℕ))
 all_labels names = map (λ name. name.labels) names
 
 -- the name of a number
-abbrev pub labels_at : List (List (List ℕ)) → ℕ → List (List ℕ)
-labels_at names number = slice_index_or names number []
+abbrev pub numbered_name : List (List (List ℕ)) → ℕ → List (List ℕ)
+numbered_name names number = slice_index_or names number []
 
-abbrev pub part_seen : List RecordValue → List (List (List ℕ)) → FoundPart → Part
-part_seen records names (parts.Kept node code) = Kept (of_type code (node_records records node))
-part_seen records names (parts.Named number node code) = Named (labels_at names number) (of_type code (node_records records node))
-part_seen records names (parts.Made number node) = Made (labels_at names number) (of_type dname_code (node_records records node)) (labels_at names (number + 1))
-part_seen records names (parts.Denying node) = Denying (of_type soa_code (node_records records node))
+abbrev pub part_seen : List RecordValue → List (List (List ℕ)) → FoundPart → SectionPart
+part_seen records names (parts.Kept node code) = Kept (records_of_type code (node_records records node))
+part_seen records names (parts.Named number node code) = Named (numbered_name names number) (records_of_type code (node_records records node))
+part_seen records names (parts.Made number node) = Made (numbered_name names number) (records_of_type dname_code (node_records records node)) (numbered_name names (number + 1))
+part_seen records names (parts.Denying node) = Denying (records_of_type soa_code (node_records records node))
 
-abbrev pub parts_seen : List RecordValue → List (List (List ℕ)) → List FoundPart → List Part
+abbrev pub parts_seen : List RecordValue → List (List (List ℕ)) → List FoundPart → List SectionPart
 parts_seen records names parts = map (part_seen records names) parts
 
 -- the names that were asked for: that of the question, and those that aliases lead to

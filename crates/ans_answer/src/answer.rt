@@ -1,13 +1,13 @@
 //! What a server says to a name and a type by its zone alone, without DNSSEC.
 ghost use Rattle.std.specs.Prelude.{◌≡◌, ℕ, List, ◌∷◌, ◌++◌, [], false, true, None, IfNone, IfOk, IfSome, OnOk};
-ghost use Rattle.ans_answer.specs.Answers.{answer, by_kind, denied, ended, follow, is_met, max_aliases};
-ghost use Rattle.ans_answer.specs.Inside.Steps.{EndsAs, EndsTurn, GoesOn, IsSaid, IsUpTo, TurnsTo, link_parts};
+ghost use Rattle.ans_answer.specs.Answers.{answer, by_kind, denied, of_outcome, follow, is_met, max_aliases};
+ghost use Rattle.ans_answer.specs.Inside.Steps.{EndsAs, EndsTurn, LeadsOn, IsSaid, IsUpTo, TurnsTo, link_parts};
 ghost use Rattle.ans_answer.specs.Targets.{To};
 ghost use Rattle.ans_answer.specs.Outcomes.{kind};
-ghost use Rattle.ans_answer.specs.Seen.{HasRecords, IsOfRecords, LeadHasRecords, all_labels, answer_seen, labels_at, lead_seen, names_of, next_seen, node_records, outcome_seen};
+ghost use Rattle.ans_answer.specs.Seen.{HasRecords, IsOfRecords, LeadHasRecords, all_labels, answer_seen, numbered_name, lead_seen, names_of, next_seen, node_records, outcome_seen};
 ghost use Rattle.ans_answer.specs.declared.answer.Rcode.TheVariants.{Refused};
 
-use crate::codes::{CNAME, DNAME, NS, SOA};
+use crate::codes::{CNAME, DNAME, NS};
 use crate::kind::{Kind, kind_of};
 use crate::lead::{Lead, lead_of};
 use crate::outcome::{Outcome, is_in, is_same};
@@ -134,7 +134,7 @@ impl Answer {
     ) -> Result<Option<Name>, AllocError>
         requires upto { IsUpTo self.old number }
         requires records { LeadHasRecords zone.now.records lead }
-        ensures some { IfOk result (λ next. IfSome next (GoesOn zone.now asked.now.labels code number (lead_seen zone.now.records lead) self.old self.new)) }
+        ensures some { IfOk result (λ next. IfSome next (LeadsOn zone.now asked.now.labels code number (lead_seen zone.now.records lead) self.old self.new)) }
         ensures none { IfOk result (λ next. IfNone next (IsSaid zone.now asked.now.labels code number (lead_seen zone.now.records lead) self.old self.new)) }
     {
         match lead {
@@ -221,7 +221,7 @@ impl Answer {
     fn stay(&mut self, zone: &ZoneStore<'_>, number: usize, outcome: Outcome, code: u16)
         requires upto { IsUpTo self.old number }
         requires records { HasRecords zone.now.records outcome }
-        ensures { (asked : List (List ℕ)) → EndsAs zone.now.records asked self.old self.new (ended zone.now (labels_at (names_of asked self.old) number) code (outcome_seen zone.now.records outcome)) }
+        ensures { (asked : List (List ℕ)) → EndsAs zone.now.records asked self.old self.new (of_outcome zone.now (numbered_name (names_of asked self.old) number) code (outcome_seen zone.now.records outcome)) }
     {
         match outcome {
             Outcome::Referral(node) => {
@@ -240,7 +240,7 @@ impl Answer {
     fn tell(&mut self, zone: &ZoneStore<'_>, number: usize, node: Node, code: u16)
         requires upto { IsUpTo self.old number }
         requires records { IsOfRecords zone.now.records node }
-        ensures { (asked : List (List ℕ)) → EndsAs zone.now.records asked self.old self.new (by_kind zone.now (labels_at (names_of asked self.old) number) code (node_records zone.now.records node) (kind (node_records zone.now.records node) code)) }
+        ensures { (asked : List (List ℕ)) → EndsAs zone.now.records asked self.old self.new (by_kind zone.now (numbered_name (names_of asked self.old) number) code (node_records zone.now.records node) (kind (node_records zone.now.records node) code)) }
     {
         match kind_of(zone, node, code) {
             Kind::Records => {

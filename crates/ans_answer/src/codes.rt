@@ -6,9 +6,6 @@ pub(crate) const NS: u16 = 2;
 /// CNAME (RFC 1035, section 3.3.1).
 pub(crate) const CNAME: u16 = 5;
 
-/// SOA (RFC 1035, section 3.3.13).
-pub(crate) const SOA: u16 = 6;
-
 /// DNAME (RFC 6672, section 2.1).
 pub(crate) const DNAME: u16 = 39;
 

@@ -3,7 +3,7 @@ ghost use Rattle.std.specs.Prelude.{◌≡◌, ◌≤◌, ◌+◌, ◌-◌, ◌+
 ghost use Rattle.std.specs.Option.{option_map};
 ghost use Rattle.dns_names_wire.specs.Words.{AreLabels, NameValue, max_name, wire};
 ghost use Rattle.ans_store.specs.Stored.{leading_labels};
-ghost use Rattle.ans_answer.specs.Answers.{of_type};
+ghost use Rattle.ans_answer.specs.Answers.{records_of_type};
 ghost use Rattle.ans_answer.specs.Outcomes.{is_wanted};
 ghost use Rattle.ans_answer.specs.Seen.{next_seen};
 ghost use Rattle.ans_answer.specs.Targets.{if_short, name_in, redirected, renamed};
@@ -36,7 +36,7 @@ pub enum Next {
 pub(crate) fn renamed(alloc: Global, zone: &ZoneStore<'_>, node: Node, code: u16) -> Next
     requires ordered { node.start ≤ node.end }
     requires within { node.end ≤ length zone.now.records }
-    ensures { next_seen result ≡ renamed (of_type code (slice_range zone.now.records node.start node.end)) }
+    ensures { next_seen result ≡ renamed (records_of_type code (slice_range zone.now.records node.start node.end)) }
 {
     let Some(record) = first_of(zone, node, code) else {
         return Next::Nowhere;
@@ -58,7 +58,7 @@ pub(crate) fn redirected(
 ) -> Next
     requires ordered { node.start ≤ node.end }
     requires within { node.end ≤ length zone.now.records }
-    ensures { next_seen result ≡ redirected name.now.labels (of_type code (slice_range zone.now.records node.start node.end)) }
+    ensures { next_seen result ≡ redirected name.now.labels (records_of_type code (slice_range zone.now.records node.start node.end)) }
 {
     let Some(record) = first_of(zone, node, code) else {
         return Next::Nowhere;
@@ -74,7 +74,7 @@ pub(crate) fn redirected(
 pub(crate) fn first_of<'z>(zone: &ZoneStore<'z>, node: Node, code: u16) -> Option<RecordRef<'z>>
     requires ordered { node.start ≤ node.end }
     requires within { node.end ≤ length zone.now.records }
-    ensures { result ≡ slice_get (of_type code (slice_range zone.now.records node.start node.end)) 0 }
+    ensures { result ≡ slice_get (records_of_type code (slice_range zone.now.records node.start node.end)) 0 }
 {
     'records: for number in node.start..node.end {
         let record = zone.get(number);

@@ -3,8 +3,8 @@ use Rattle.std.specs.Prelude.{◌≡◌, ℕ, true, false, List, [], ◌∷◌, 
 use Rattle.dns_names_wire.specs.Words.{NameValue, RecordValue, dname_code}
 use Rattle.ans_store.specs.Zones.{ZoneValue}
 use Rattle.ans_store.specs.declared.lookup.Node.{Node}
-use Rattle.ans_answer.specs.Answers.{Lead, ZoneAnswer, is_met, joined, led, said, silent}
-use Rattle.ans_answer.specs.Seen.{all_labels, answer_seen, labels_at, names_of, parts_seen}
+use Rattle.ans_answer.specs.Answers.{Lead, ZoneAnswer, is_met, begun_with, led, said, silent}
+use Rattle.ans_answer.specs.Seen.{all_labels, answer_seen, numbered_name, names_of, parts_seen}
 use Rattle.ans_answer.specs.Targets.{Next, To}
 use Rattle.ans_answer.specs.declared.answer.Answer.{Answer}
 use Rattle.ans_answer.specs.declared.answer.Part.{Part}
@@ -26,7 +26,7 @@ pub record IsUpTo (answer : Answer) (number : ℕ) : Type 0 where
 pub record EndsAs (records : List RecordValue) (asked : List (List ℕ)) (old new : Answer) (end : ZoneAnswer) : Type 0 where
   pub added : List NameValue
   pub names : new.names.items ≡ old.names.items ++ added
-  pub says : answer_seen records asked new ≡ joined (parts_seen records (names_of asked new) old.aliases.items) end
+  pub says : answer_seen records asked new ≡ begun_with (parts_seen records (names_of asked new) old.aliases.items) end
 
 -- The answer has one name more, to which this leads, and which was not asked for before.
 pub record TurnsTo (asked : List (List ℕ)) (old new : Answer) (next : Next) (name : NameValue) : Type 0 where
@@ -55,17 +55,17 @@ link_parts number node nexts.Nowhere = parts.Kept node dname_code ∷ []
 link_parts number node nexts.TooLong = parts.Kept node dname_code ∷ []
 
 -- The answer has the parts of an alias more, and the name that it leads to.
-pub record GoesOn (zone : ZoneValue) (asked : List (List ℕ)) (code number : ℕ) (lead : Lead) (old new : Answer) (name : NameValue) : Type 0 where
+pub record LeadsOn (zone : ZoneValue) (asked : List (List ℕ)) (code number : ℕ) (lead : Lead) (old new : Answer) (name : NameValue) : Type 0 where
   pub added : List Part
   pub names : new.names.items ≡ old.names.items ++ name ∷ []
   pub has : new.aliases.items ≡ old.aliases.items ++ added
   pub data_none : new.data ≡ None
   pub authority : new.authority ≡ None
   pub says : (others : Others) (more : List NameValue)
-      → said others zone code (names_of asked old) (labels_at (names_of asked old) number) lead
-      ≡ joined (parts_seen zone.records (asked ∷ all_labels (new.names.items ++ more)) added) (others (names_of asked new) name.labels)
+      → said others zone code (names_of asked old) (numbered_name (names_of asked old) number) lead
+      ≡ begun_with (parts_seen zone.records (asked ∷ all_labels (new.names.items ++ more)) added) (others (names_of asked new) name.labels)
 
 -- The answer ends with what is said of the last name that was asked for, whatever is said of other names.
 abbrev pub IsSaid : ZoneValue → List (List ℕ) → ℕ → ℕ → Lead → Answer → Answer → Type 0
 IsSaid zone asked code number lead old new =
-    (others : Others) → EndsAs zone.records asked old new (said others zone code (names_of asked old) (labels_at (names_of asked old) number) lead)
+    (others : Others) → EndsAs zone.records asked old new (said others zone code (names_of asked old) (numbered_name (names_of asked old) number) lead)

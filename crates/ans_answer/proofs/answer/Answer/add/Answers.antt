@@ -1,14 +1,14 @@
 use Rattle.std.proofs.Common.{refl, sym, subst}
 use Rattle.ans_answer.specs.Answers.{said}
 use Rattle.ans_answer.specs.Inside.Steps.{EndsAs}
-use Rattle.ans_answer.specs.Seen.{labels_at, lead_seen, names_of}
+use Rattle.ans_answer.specs.Seen.{numbered_name, lead_seen, names_of}
 use Rattle.ans_answer.proofs.Steps.{dname_goes, dname_stops, ok_none, ok_some}
 use Rattle.ans_answer.proofs.answer.Answer.add.Goals as goal
 
 pub returns-in-Stays-clause-none : goal.returns-in-Stays-clause-none
 returns-in-Stays-clause-none c others =
     subst (λ l. EndsAs c.args.zone.now.records c.args.asked.now.labels c.args.self.now c.stay.new.self
-    (said others c.args.zone.now c.args.code (names_of c.args.asked.now.labels c.args.self.now) (labels_at (names_of c.args.asked.now.labels c.args.self.now) c.args.number) (lead_seen c.args.zone.now.records l)))
+    (said others c.args.zone.now c.args.code (names_of c.args.asked.now.labels c.args.self.now) (numbered_name (names_of c.args.asked.now.labels c.args.self.now) c.args.number) (lead_seen c.args.zone.now.records l)))
     (sym c.in-Stays.is) (c.stay.ensures c.args.asked.now.labels)
 
 pub returns-in_ok-link-in-Dname-clause-some : goal.returns-in_ok-link-in-Dname-clause-some
