@@ -68,7 +68,7 @@ pub(crate) const USUAL_PAYLOAD: u16 = 1232;
 #[derive(Clone)]
 pub struct MessageBuilder {
     header: Header,
-    /// The request to which this is a reply, and what a reply needs that has the response code of this.
+    /// The request to which this is a reply, and what the library says of the reply that was begun.
     request: Option<(Vec<u8>, ffi::Edns)>,
     /// The items of each section, of which `dnw_message_write` takes a list, but for the OPT record.
     sections: [Vec<u8>; SECTIONS],

@@ -386,7 +386,7 @@ impl<'m> MessageWriter<'m> {
         Ok(self)
     }
 
-    /// Adds the OPT record that a reply has, if it is not there, in the octets that are held back for it. It fails if it is there.
+    /// Adds the OPT record that a reply owes, in the octets that are held back for it. If it is there, nothing changes.
     fn add_owed_edns(&mut self) {
         if self.asked.is_some() {
             let _ = self.edns(&Edns::new(USUAL_PAYLOAD)).is_ok();
