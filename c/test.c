@@ -692,6 +692,10 @@ static void lacks_memory(void)
     code = 1;
     EXPECT(dnw_types_write(&code, 1, buffer, sizeof buffer, &len) == DNW_NO_MEMORY && len == 0);
     EXPECT(dnw_option_print(3, BYTES("a"), buffer, sizeof buffer, &len) == DNW_NO_MEMORY && len == 0);
+    struct dnw_printed_part part = {7, 7};
+    EXPECT(dnw_message_print(BYTES(referral), 9, 0, buffer, sizeof buffer, &part) == DNW_NO_MEMORY && part.len == 7);
+    EXPECT(dnw_message_json(BYTES(referral), 9, 0, buffer, sizeof buffer, &part) == DNW_NO_MEMORY && part.total == 7);
+    EXPECT(dnw_message_print(BYTES("none"), 9, 0, buffer, sizeof buffer, &part) == DNW_MESSAGE_CUT && untouched());
     struct dnw_option option = {.is_given = true};
     EXPECT(dnw_option_read(3, BYTES("a"), &option) == DNW_DONE && option.len == 1);
     EXPECT(dnw_option_write(3, &option, BYTES("a"), buffer, sizeof buffer, &len) == DNW_NO_MEMORY && len == 0);

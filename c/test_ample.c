@@ -225,6 +225,47 @@ static void packs(size_t size)
     EXPECT(!fits || packed.len == input_len);
 }
 
+/* A message is printed in the layout of dig, and as JSON, in so many bytes at least. */
+static void is_printed(size_t least)
+{
+    struct dnw_printed_part printed;
+    EXPECT(dnw_message_print(input, input_len, DNW_MAX_POINTERS, 0, output, sizeof output, &printed) == DNW_DONE);
+    EXPECT(least <= printed.total && (printed.len == printed.total || printed.len == sizeof output));
+    EXPECT(dnw_message_json(input, input_len, DNW_MAX_POINTERS, 0, output, sizeof output, &printed) == DNW_DONE);
+    EXPECT(least <= printed.total && (printed.len == printed.total || printed.len == sizeof output));
+}
+
+/* So many questions, so many answers, data of so many octets, and so many octets of an option. */
+static void prints_messages(size_t size)
+{
+    if (size > LONGEST)
+        return;
+    input_len = 0;
+    put_header(size, 0);
+    for (size_t n = 0; n < size; n++)
+        put("\000\000\001\000\001", 5);
+    is_printed(8 * size);
+    input_len = 0;
+    put_header(0, size);
+    for (size_t n = 0; n < size; n++)
+        put_numbered(n);
+    is_printed(20 * size);
+    input_len = 0;
+    put_header(0, 1);
+    put_head(DNW_TYPE_NULL, size);
+    fill('x', size);
+    is_printed(2 * size);
+    if (LONGEST < size + 4)
+        return;
+    input_len = 0;
+    put("\000\000\204\000\000\000\000\000\000\000\000\001", 12);
+    put_head(DNW_TYPE_OPT, size + 4);
+    put("\000\003", 2);
+    put_word(size);
+    fill('x', size);
+    is_printed(4 * size);
+}
+
 static void reads_data(size_t size)
 {
     size_t len = 7;
@@ -616,6 +657,8 @@ static const struct row {
 } rows[] = {
     {"dnw_names_write", writes_names},
     {"dnw_message_pack", packs},
+    {"dnw_message_print", prints_messages},
+    {"dnw_message_json", prints_messages},
     {"dnw_option_print", prints_options},
     {"dnw_option_write", writes_options},
     {"dnw_record_data", reads_data},

@@ -211,6 +211,18 @@ static void sums_and_checks(uint16_t record_type)
     EXPECT(lacks_soa == (record_type != DNW_TYPE_SOA) && lacks_servers == (record_type != DNW_TYPE_NS));
 }
 
+/* The text of a message with the record ends with its line. */
+static void prints(void)
+{
+    static uint8_t line[ROOM];
+    struct dnw_printed_record printed;
+    struct dnw_printed_part part;
+    EXPECT(dnw_record_print(record, record_len, 0, line, sizeof line, &printed) == DNW_DONE);
+    EXPECT(dnw_message_print(input, input_len, 9, 0, output, sizeof output, &part) == DNW_DONE && part.total > printed.len);
+    EXPECT(memcmp(output + part.total - printed.len, line, printed.len) == 0 && output[part.total - printed.len - 1] == '\n');
+    EXPECT(dnw_message_json(input, input_len, 9, 0, output, sizeof output, &part) == DNW_DONE && part.total > 2 * data_len);
+}
+
 /* Names in the data may be compressed. */
 static void packs(void)
 {
@@ -224,6 +236,7 @@ static void packs(void)
     EXPECT(dnw_message_pack(input, input_len, sizeof message, 0, message, sizeof message, &packed) == DNW_DONE && !packed.truncated);
     EXPECT(dnw_record_read(message, packed.len, HEADER, owner, sizeof owner, &answer) == DNW_DONE && answer.end == packed.len);
     EXPECT(dnw_record_data(message, packed.len, HEADER, output, sizeof output, &len) == DNW_DONE && is_output(data, data_len, len));
+    prints();
 }
 
 int main(void)

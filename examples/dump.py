@@ -10,8 +10,6 @@ def main(file: str = "/dev/stdin") -> None:
     with open(file, "rb") as octets:
         message = Message.from_wire(octets.read())
     print(message)
-    if message.trailing:
-        print(f";; {len(message.trailing)} octets follow")
 
 
 if __name__ == "__main__":

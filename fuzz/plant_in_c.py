@@ -25,7 +25,9 @@ OF_DATA = "data_len_of(message, message_len)"
 SUBJECTS = {
     "dnw_data_parse": "text_len - 9",  # spaces before an address
     "dnw_data_text_fault": "text_len - 7",
+    "dnw_message_json": "message_len < 12 ? -1 : message[4] << 8 | message[5]",
     "dnw_message_pack": "message_len < 12 ? -1 : message[6] << 8 | message[7]",
+    "dnw_message_print": "message_len < 12 ? -1 : message[4] << 8 | message[5]",
     "dnw_names_sort": "names_len / 7",
     "dnw_names_write": "names_len",
     "dnw_option_print": "data_len",
@@ -51,7 +53,9 @@ SUBJECTS = {
 TYPES = {
     "dnw_data_parse": "record_type",
     "dnw_data_text_fault": "record_type",
+    "dnw_message_json": "type_of(message + 12, message_len - 12)",
     "dnw_message_pack": "type_of(message + 12, message_len - 12)",
+    "dnw_message_print": "type_of(message + 12, message_len - 12)",
     "dnw_record_data": "type_of(message, message_len)",
     "dnw_record_print": "type_of(message, message_len)",
     "dnw_record_sort_key": "type_of(message, message_len)",

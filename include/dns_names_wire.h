@@ -278,8 +278,8 @@ uint32_t dnw_edns_read(const uint8_t *message, size_t message_len, size_t max_po
    the text in `text_len`: `CLIENT-SUBNET: 192.0.2.0/24/0`, `EDE: 15 (Blocked): (why)`. NSID, client subnet, expire, cookie,
    TCP keepalive, padding and extended errors have a text of their own; the name of an error is that of IANA's registry. Any
    other option, and one whose data break a rule of its format, is its code, its octets in hexadecimal and these as
-   characters: `OPT=65001: 61 0a ("a.")`. The text is UTF-8 without control characters, and ASCII but for the text of an
-   error. It fails with DNW_NO_ROOM if the text has more than `text_size` octets; 4 * `data_len` + 128 are always enough.
+   characters: `OPT=65001: 61 0a ("a.")`. The text is UTF-8, without characters for control and those that turn the direction
+   of text, and ASCII but for the text of an error. It fails with DNW_NO_ROOM if the text has more than `text_size` octets; 4 * `data_len` + 128 are always enough.
    Otherwise it fails with DNW_NO_MEMORY. */
 uint32_t dnw_option_print(uint16_t code, const uint8_t *data, size_t data_len, uint8_t *text, size_t text_size,
                           size_t *text_len);
@@ -479,6 +479,35 @@ struct dnw_printed_record {
    with DNW_NO_MEMORY. */
 uint32_t dnw_record_print(const uint8_t *message, size_t message_len, size_t start, uint8_t *text, size_t text_size,
                           struct dnw_printed_record *printed);
+
+/* `len` bytes of a text were stored in the buffer. The whole text has `total`. */
+struct dnw_printed_part {
+    size_t len;
+    size_t total;
+};
+
+/* Stores the text of the message at the start of these octets, from its byte `start` on, as far as there is room. The text is
+   in the layout of dig: the header, the EDNS fields and options, and under a title the questions and the records of each
+   section. Records are as dnw_record_print prints them, and options as dnw_option_print does. The titles of an UPDATE are
+   those of RFC 2136, section 2. If the message breaks a rule of EDNS, a line says which, the response code is that of the
+   header alone, and an OPT record is printed as any other. A last line says how many octets follow the message, if any do.
+   The text has no line feed at its end. It is UTF-8, and ASCII but for the texts of extended errors. But for line feeds, and
+   tabs in the lines of questions, no character of it is for control or turns the direction of text.
+
+   A text that is longer than the buffer is stored in parts: the next part starts where `len` bytes of this one end, up to
+   `total`. A part may end within a character. With `text_size` 0 a call stores only the lengths, and from `total` on no byte.
+   Each call makes the whole text, so a buffer of `total` bytes is faster than many parts.
+
+   It fails as dnw_message_read, and with DNW_NO_MEMORY. */
+uint32_t dnw_message_print(const uint8_t *message, size_t message_len, size_t max_pointers, size_t start, uint8_t *text,
+                           size_t text_size, struct dnw_printed_part *printed);
+
+/* As dnw_message_print, but the text is a JSON object in one line (RFC 8427). Names and the data of records are the texts that
+   dnw_record_print prints, and `RDATAHEX` has the octets of the data, with every name in its wire form if the data are valid.
+   `EDNS` has the version, DO, the size and the options, each as dnw_option_print prints it, or as `error` the rule that the
+   message breaks. It fails as dnw_message_print, also with DNW_NO_MEMORY. */
+uint32_t dnw_message_json(const uint8_t *message, size_t message_len, size_t max_pointers, size_t start, uint8_t *text,
+                          size_t text_size, struct dnw_printed_part *printed);
 
 /* Parses the text of data of class `record_class` and type `record_type`, and stores the data, and their length in
    `len`. The text is the fields of the type with white space between them, as dnw_record_print prints them, or the form

@@ -228,9 +228,14 @@ def replies(port):
             print("no reply to what is no query", file=sys.stderr)
 
 
+def in_spaces(line):
+    """A line of a record with a space between its parts, as zone files are printed; any other line as it is."""
+    return line if line.startswith(";") else line.replace("\t", " ")
+
+
 def listing(reply):
     """The text of a message, with what EDNS says before the questions, as `dig` has it."""
-    lines = make.text_of(reply, data_text, type_text).rstrip().split("\n")
+    lines = [in_spaces(line) for line in make.text_of(reply, data_text, type_text).rstrip().split("\n")]
     if not lines[-1].startswith("; EDNS: "):
         return "\n".join(lines)
     *lines, edns = lines

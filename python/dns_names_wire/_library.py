@@ -149,6 +149,10 @@ class Packed(ctypes.Structure):
     _fields_ = [("len", c_size_t), ("truncated", c_bool)]
 
 
+class PrintedPart(ctypes.Structure):
+    _fields_ = [("len", c_size_t), ("total", c_size_t)]
+
+
 class PrintedRecord(ctypes.Structure):
     _fields_ = [("len", c_size_t), ("end", c_size_t)]
 
@@ -243,6 +247,8 @@ _FUNCTIONS = {
     "dnw_zone_put_record": (*_READ, c_size_t, POINTER(Zone), *_WRITTEN, POINTER(PrintedRecord)),
     "dnw_zone_put_origin": (*_READ, POINTER(Zone), *_WRITTEN, POINTER(c_size_t)),
     "dnw_zone_put_ttl": (c_uint32, POINTER(Zone), *_WRITTEN, POINTER(c_size_t)),
+    "dnw_message_print": (*_READ, c_size_t, c_size_t, *_WRITTEN, POINTER(PrintedPart)),
+    "dnw_message_json": (*_READ, c_size_t, c_size_t, *_WRITTEN, POINTER(PrintedPart)),
     "dnw_record_print": (*_READ, c_size_t, *_WRITTEN, POINTER(PrintedRecord)),
     "dnw_record_sort_key": (*_READ, c_size_t, *_WRITTEN, POINTER(c_size_t)),
     "dnw_signed_octets": (*_READ, c_size_t, c_size_t, *_WRITTEN, POINTER(c_size_t)),

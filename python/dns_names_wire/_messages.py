@@ -14,6 +14,7 @@ from ._library import (
     ROOM_SIZE,
     MessageFault,
     Packed,
+    PrintedPart,
     Room,
     by_address,
     give_back,
@@ -25,7 +26,6 @@ from ._library import (
 from ._library import Edns as ReadEdns
 from ._library import Message as Read
 from ._library import Writer
-from ._listing import message_lines
 from ._names import Name, whole_name
 from ._options import EdnsOption, OptionLike, options_of
 from ._records import Record, record_at
@@ -44,6 +44,8 @@ _HEADER_SIZE = 12
 # The first octets of the items of a list, by enum dnw_list_item in dns_names_wire.h.
 ANSWER_ITEM, _AUTHORITY, _ADDITIONAL, _REQUIRED = b"\1", b"\2", b"\3", b"\x23"
 _MOST = 65535
+# The bytes of most texts of messages.
+_USUAL_TEXT = 2048
 _MAX_POINTERS = 65536
 _MOST_ITEMS = ROOM_SIZE - _HEADER_SIZE
 _message_write = by_address("dnw_message_write", 11)
@@ -216,7 +218,7 @@ class Message:
     (<Record b. 60 IN A c0000201>,)
     >>> message.answers[0].data
     A(address=IPv4Address('192.0.2.1'))
-    >>> print(message)
+    >>> print(str(message).expandtabs(1))
     ;; ->>HEADER<<- opcode: QUERY, status: NOERROR, id: 4660
     ;; flags: qr aa; QUERY: 1, ANSWER: 1, AUTHORITY: 0, ADDITIONAL: 0
     <BLANKLINE>
@@ -438,8 +440,31 @@ class Message:
         raise NotImplementedError
 
     def to_text(self) -> str:
-        """Returns the lines that `dig` prints, as `str` does."""
+        """Returns the lines that `dig` prints, as `str` does: the header, the EDNS fields and options, the questions, and the
+        records of each section, which are lines of master files. If the message breaks a rule of EDNS, a line says which. The
+        text has no character for control but line feeds, and tabs in the lines of questions. Raises as `wire`."""
         return str(self)
+
+    def to_json(self) -> str:
+        """Returns the message as a JSON object in one line (RFC 8427). Names and data are texts of master files, `RDATAHEX` has
+        the octets of data, and `EDNS` what the message says by EDNS, or the rule that it breaks. Raises as `wire`.
+
+        >>> import json
+        >>> found = json.loads(Message.query("b.", RecordType.NS, id=7).to_json())
+        >>> found["ID"], found["QNAME"], found["QTYPEname"]
+        (7, 'b.', 'NS')
+        """
+        return self._printed(library.dnw_message_json)
+
+    def _printed(self, print_part: Callable[..., int]) -> str:
+        """Returns the text that a function of the library stores in parts."""
+        octets, part, text, left = self.wire + self.trailing, PrintedPart(), b"", _USUAL_TEXT
+        while left:
+            room = room_of(left)
+            check(print_part(octets, len(octets), self._pointers(), len(text), room, len(room), byref(part)))
+            text += taken(room, part.len)
+            left = part.total - len(text)
+        return text.decode()
 
     @property
     def header(self) -> Header:
@@ -551,7 +576,7 @@ class Message:
         return _read_again, (self.wire + self.trailing, self._pointers())
 
     def __str__(self) -> str:
-        return "\n".join(message_lines(self))
+        return self._printed(library.dnw_message_print)
 
     def __repr__(self) -> str:
         counts = [len(part) for part in (self.questions, self.answers, self.authorities, self.additionals)]

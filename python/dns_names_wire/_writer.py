@@ -31,7 +31,7 @@ class MessageWriter:
     >>> writer.question(Question("a.", "NS"))
     >>> writer.answer(Record("a.", 60, NS("b.a.")))
     >>> writer.additional(Record("b.a.", 60, A("192.0.2.1")))
-    >>> print(Message.from_wire(writer.finish()))
+    >>> print(str(Message.from_wire(writer.finish())).expandtabs(1))
     ;; ->>HEADER<<- opcode: QUERY, status: NOERROR, id: 7
     ;; flags: qr; QUERY: 1, ANSWER: 1, AUTHORITY: 0, ADDITIONAL: 1
     <BLANKLINE>

@@ -306,7 +306,7 @@ class Texts(unittest.TestCase):
             self.assertRaises(error, data.option)
 
     def test_a_message_is_shown_as_dig_shows_it(self) -> None:
-        """Lines of dig 9.18, with spaces for tabs."""
+        """Lines of dig 9.18, with spaces for tabs in records."""
         options = ((65001, b"ab\0"), (65002, b""), (8, b"\0\1\x18\0\xc0\0\2"), (15, b"\0\6" + "\u00e9\x1b".encode()), (10, b"a"))
         query = Message.query("a.", 1, id=7, edns=Edns(1232, options=options))
         lines = str(query).splitlines()
@@ -322,7 +322,7 @@ class Texts(unittest.TestCase):
                 ";; flags:; QUERY: 1, ANSWER: 1, AUTHORITY: 1, ADDITIONAL: 0",
                 "",
                 ";; ZONE SECTION:",
-                ";a. IN SOA",
+                ";a.\tIN\tSOA",
                 "",
                 ";; PREREQUISITE SECTION:",
                 "a. 0 NONE A",

@@ -80,17 +80,17 @@ class WholeMessages(unittest.TestCase):
                 ";; OPT PSEUDOSECTION:",
                 "; EDNS: version: 0, flags: do; udp: 1232",
                 "; COOKIE: 0102030405060708",
-                "",
                 ";; QUESTION SECTION:",
-                ";www.example.com. IN A",
+                ";www.example.com.\tIN\tA",
                 "",
                 ";; ANSWER SECTION:",
                 "",
                 ";; AUTHORITY SECTION:",
             ],
         )
-        # Two OPT records are not EDNS, and are printed as records.
+        # Two OPT records break a rule of EDNS, and are printed as records.
         shown = str(Message.from_wire(with_additionals(opt("00", ""), opt("00", ""))))
+        self.assertIn("\n\n;; WARNING: EDNS breaks a rule: more than one EDNS record\n\n;; QUESTION SECTION:", shown)
         self.assertTrue(shown.endswith("\n\n;; ADDITIONAL SECTION:" + "\n. 0 CLASS256 OPT \\# 0" * 2), shown)
 
     def test_fields_are_read(self):

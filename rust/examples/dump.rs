@@ -15,10 +15,7 @@ fn read(file: Option<String>) -> io::Result<Vec<u8>> {
 fn dump() -> Result<(), Box<dyn error::Error>> {
     let octets = read(env::args().nth(1))?;
     let message = Message::read(&octets)?;
-    print!("{message}");
-    if !message.trailing().is_empty() {
-        println!(";; {} octets follow", message.trailing().len());
-    }
+    println!("{message}");
     Ok(())
 }
 

@@ -55,13 +55,11 @@ pub(crate) const USUAL_PAYLOAD: u16 = 1232;
 ///
 /// ;; OPT PSEUDOSECTION:
 /// ; EDNS: version: 0, flags:; udp: 1232
-///
 /// ;; QUESTION SECTION:
 /// ;www.example.\tIN\tA
 ///
 /// ;; ANSWER SECTION:
-/// www.example.\t60\tIN\tA\t192.0.2.1
-/// "
+/// www.example. 60 IN A 192.0.2.1"
 /// );
 /// # Ok::<(), dns_names_wire::Error>(())
 /// ```

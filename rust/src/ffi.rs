@@ -220,6 +220,14 @@ struct PrintedRecord {
     end: usize,
 }
 
+/// `struct dnw_printed_part`
+#[repr(C)]
+#[derive(Default)]
+struct PrintedPart {
+    len: usize,
+    total: usize,
+}
+
 /// `struct dnw_net`
 #[repr(C)]
 #[derive(Default)]
@@ -472,6 +480,24 @@ extern "C" {
         text: *mut u8,
         text_size: usize,
         printed: *mut PrintedRecord,
+    ) -> u32;
+    fn dnw_message_print(
+        message: *const u8,
+        message_len: usize,
+        max_pointers: usize,
+        start: usize,
+        text: *mut u8,
+        text_size: usize,
+        printed: *mut PrintedPart,
+    ) -> u32;
+    fn dnw_message_json(
+        message: *const u8,
+        message_len: usize,
+        max_pointers: usize,
+        start: usize,
+        text: *mut u8,
+        text_size: usize,
+        printed: *mut PrintedPart,
     ) -> u32;
     fn dnw_data_parse(
         record_class: u16,

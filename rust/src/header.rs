@@ -203,17 +203,4 @@ impl Header {
             | bit(self.checking_disabled, 4)
             | u16::from(self.response_code) & 15
     }
-
-    /// Returns the flags by the names that `dig` prints, in the order of their bits.
-    pub(crate) fn flags(&self) -> [(&'static str, bool); 7] {
-        [
-            ("qr", self.is_response),
-            ("aa", self.authoritative),
-            ("tc", self.truncation),
-            ("rd", self.recursion_desired),
-            ("ra", self.recursion_available),
-            ("ad", self.authentic_data),
-            ("cd", self.checking_disabled),
-        ]
-    }
 }

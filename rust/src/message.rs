@@ -1,12 +1,12 @@
 //! Whole messages, which are checked once.
 use crate::codes::{Class, RecordType};
-use crate::edns_option::EdnsOption;
 use crate::error::Error;
-use crate::ffi::{self, HEADER_SIZE};
+use crate::ffi::{self, Layout, HEADER_SIZE};
 use crate::field::Pairs;
-use crate::header::{Header, OpCode, ResponseCode};
+use crate::header::{Header, ResponseCode};
 use crate::name_ref::NameRef;
 use crate::record::Record;
+use alloc::string::String;
 use alloc::vec::Vec;
 use core::fmt;
 use core::iter::FusedIterator;
@@ -14,9 +14,6 @@ use core::iter::FusedIterator;
 /// How many compression pointers the names of a message may follow in total, by default.
 const MAX_POINTERS: usize = 65536;
 
-/// The titles of the sections, and those of an UPDATE (RFC 2136, section 2).
-const TITLES: [&str; 4] = ["QUESTION", "ANSWER", "AUTHORITY", "ADDITIONAL"];
-const UPDATE_TITLES: [&str; 4] = ["ZONE", "PREREQUISITE", "UPDATE", "ADDITIONAL"];
 
 /// A message that was checked as a whole (RFC 1035, section 4): its header, its questions and its records are all
 /// there. It borrows the octets that it was read from.
@@ -34,7 +31,7 @@ const UPDATE_TITLES: [&str; 4] = ["ZONE", "PREREQUISITE", "UPDATE", "ADDITIONAL"
 /// let answer = message.answers().next().unwrap();
 /// assert_eq!((answer.owner().to_string(), answer.ttl()), ("b.".into(), 60));
 /// assert_eq!(answer.fields().next(), Some(Ok(Field::Ipv4([192, 0, 2, 1]))));
-/// assert_eq!(answer.to_string(), "b.\t60\tIN\tA\t192.0.2.1");
+/// assert_eq!(answer.to_string(), "b. 60 IN A 192.0.2.1");
 /// # Ok::<(), dns_names_wire::Error>(())
 /// ```
 #[derive(Clone)]
@@ -275,6 +272,26 @@ impl<'a> Message<'a> {
         Ok(packed)
     }
 
+    /// Returns the message as a JSON object in one line (RFC 8427). Names and data are texts of master files, `RDATAHEX` has the
+    /// octets of data, and `EDNS` what the message says by EDNS, each option as [`EdnsOption`] prints it, or the rule that it
+    /// breaks.
+    ///
+    /// [`EdnsOption`]: crate::EdnsOption
+    ///
+    /// # Errors
+    ///
+    /// `NoMemory`.
+    ///
+    /// ```
+    /// let message = dns_names_wire::Message::read(b"\0\x07\0\0\0\x01\0\0\0\0\0\0\x01b\0\0\x02\0\x01")?;
+    /// let json = message.to_json()?;
+    /// assert!(json.starts_with("{\"ID\":7,\"QR\":0,") && json.contains("\"QNAME\":\"b.\",\"QTYPE\":2,\"QTYPEname\":\"NS\","));
+    /// # Ok::<(), dns_names_wire::Error>(())
+    /// ```
+    pub fn to_json(&self) -> Result<String, Error> {
+        ffi::print_message(self.octets, self.max_pointers, Layout::Json)
+    }
+
     /// Returns the octets of the message, without those that follow it.
     ///
     /// ```
@@ -297,7 +314,9 @@ impl<'a> Message<'a> {
     }
 }
 
-/// Prints the message as `dig` does: the header, the EDNS fields and options, the questions, and the records of each section.
+/// Prints the message as `dig` does: the header, the EDNS fields and options, the questions, and the records of each section,
+/// which are lines of master files. If the message breaks a rule of EDNS, a line says which. The text has no line feed at its
+/// end, and no character for control but line feeds, and tabs in the lines of questions.
 ///
 /// ```
 /// use dns_names_wire::Message;
@@ -311,40 +330,14 @@ impl<'a> Message<'a> {
 /// ;b.\tIN\tA
 ///
 /// ;; ANSWER SECTION:
-/// b.\t60\tIN\tA\t192.0.2.1
-/// ";
+/// b. 60 IN A 192.0.2.1";
 /// assert_eq!(Message::read(octets)?.to_string(), text);
 /// # Ok::<(), dns_names_wire::Error>(())
 /// ```
 impl fmt::Display for Message<'_> {
     fn fmt(&self, f: &mut fmt::Formatter<'_>) -> fmt::Result {
-        let (header, edns) = (self.header(), self.edns().ok().flatten());
-        let status = self.response_code().unwrap_or(header.response_code);
-        writeln!(f, ";; ->>HEADER<<- opcode: {}, status: {status}, id: {}", header.op_code, header.id)?;
-        write!(f, ";; flags:")?;
-        header.flags().into_iter().filter(|(_, is_set)| *is_set).try_for_each(|(flag, _)| write!(f, " {flag}"))?;
-        write!(f, "; QUERY: {}, ANSWER: {}", header.question_count, header.answer_count)?;
-        writeln!(f, ", AUTHORITY: {}, ADDITIONAL: {}", header.authority_count, header.additional_count)?;
-        let titles = if header.op_code == OpCode::Update { UPDATE_TITLES } else { TITLES };
-        if let Some(edns) = &edns {
-            writeln!(f, "\n;; OPT PSEUDOSECTION:")?;
-            let flags = if edns.dnssec_ok { " do" } else { "" };
-            writeln!(f, "; EDNS: version: {}, flags:{flags}; udp: {}", edns.version, edns.max_payload)?;
-            edns.options().try_for_each(|option| writeln!(f, "; {}", EdnsOption::from(option)))?;
-        }
-        if header.question_count > 0 {
-            writeln!(f, "\n;; {} SECTION:", titles[0])?;
-            self.questions().try_for_each(|question| writeln!(f, ";{question}"))?;
-        }
-        for (title, records) in titles[1..].iter().zip([self.answers(), self.authorities(), self.additionals()]) {
-            let mut shown =
-                records.filter(|record| edns.is_none() || record.record_type() != RecordType::OPT).peekable();
-            if shown.peek().is_some() {
-                writeln!(f, "\n;; {title} SECTION:")?;
-            }
-            shown.try_for_each(|record| writeln!(f, "{record}"))?;
-        }
-        Ok(())
+        let text = ffi::print_message(self.octets, self.max_pointers, Layout::Dig).map_err(|_| fmt::Error)?;
+        f.write_str(&text)
     }
 }
 
@@ -494,7 +487,7 @@ impl<'a> Edns<'a> {
         Edns { options: options.left(), ..self }
     }
 
-    /// Returns the options, each a code and its octets. [`EdnsOption`] prints one.
+    /// Returns the options, each a code and its octets. [`EdnsOption`](crate::EdnsOption) prints one.
     ///
     /// ```
     /// let message = dns_names_wire::Message::read(b"\0\0\0\0\0\0\0\0\0\0\0\x01\0\0\x29\x02\0\0\0\0\0\0\0")?;

@@ -7,7 +7,7 @@
 //!
 //! let mail = owned::MX { preference: 10, exchange: "mail.example.".parse()? };
 //! let record = RecordBuf::new(&"example.".parse::<Name>()?, 300, &mail)?;
-//! assert_eq!(record.to_string(), "example.\t300\tIN\tMX\t10 mail.example.");
+//! assert_eq!(record.to_string(), "example. 300 IN MX 10 mail.example.");
 //! assert_eq!(owned::RData::try_from(record.as_record())?, owned::RData::MX(mail));
 //! # Ok::<(), dns_names_wire::Error>(())
 //! ```

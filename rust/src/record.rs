@@ -26,7 +26,7 @@ pub(crate) const TEXT_PARTS: usize = 5;
 /// // b. NS a.b., the data compressed
 /// let message = b"\x01b\0\0\x02\0\x01\0\0\0\x3C\0\x04\x01a\xC0\0";
 /// let record = Record::read(message, 0)?;
-/// assert_eq!(record.to_string(), "b.\t60\tIN\tNS\ta.b.");
+/// assert_eq!(record.to_string(), "b. 60 IN NS a.b.");
 /// assert_eq!(record.raw_data(), b"\x01a\xC0\0");
 /// assert!(matches!(record.data()?, RData::NS(host) if host.to_string() == "a.b."));
 /// assert_eq!(record.end(), message.len());
@@ -409,17 +409,12 @@ impl Hash for Record<'_> {
 }
 
 /// Prints a line of a master file, without its end (RFC 1035, section 5.1): the owner, the TTL, the class, the type and
-/// the data, with tabs between them. Data without a text of their own are printed as `\# 4 0A000001` (RFC 3597, section
+/// the data, with a space between them. Data without a text of their own are printed as `\# 4 0A000001` (RFC 3597, section
 /// 5). Escapes are decimal, as `\032`.
 impl fmt::Display for Record<'_> {
     fn fmt(&self, f: &mut fmt::Formatter<'_>) -> fmt::Result {
         let mut line = Vec::new();
-        let line = ffi::print_record(self.message(), self.owner.start(), &mut line).map_err(|_| fmt::Error)?;
-        // No owner, TTL, class or type has a space in its text.
-        line.splitn(TEXT_PARTS, ' ').enumerate().try_for_each(|(number, text)| match number {
-            0 => f.write_str(text),
-            _ => write!(f, "\t{text}"),
-        })
+        f.write_str(ffi::print_record(self.message(), self.owner.start(), &mut line).map_err(|_| fmt::Error)?)
     }
 }
 

@@ -27,7 +27,7 @@ const FIXED_SIZE: usize = 10;
 ///
 /// let (owner, host): (Name, Name) = ("a.".parse()?, "b.a.".parse()?);
 /// let record = RecordBuf::new(&owner, 60, MX { preference: 10, exchange: (&host).into() })?;
-/// assert_eq!(record.to_string(), "a.\t60\tIN\tMX\t10 b.a.");
+/// assert_eq!(record.to_string(), "a. 60 IN MX 10 b.a.");
 /// assert_eq!(record, "a. 60 IN MX 10 b.a.".parse()?);
 /// assert_eq!(record, RecordBuf::from_text("@ 1m MX 10 b", &owner)?);
 /// # Ok::<(), dns_names_wire::Error>(())
@@ -51,7 +51,7 @@ impl RecordBuf {
     /// use dns_names_wire::{Name, RecordBuf};
     ///
     /// let record = RecordBuf::new(&"a.".parse::<Name>()?, 60, std::net::Ipv4Addr::LOCALHOST)?;
-    /// assert_eq!(record.to_string(), "a.\t60\tIN\tA\t127.0.0.1");
+    /// assert_eq!(record.to_string(), "a. 60 IN A 127.0.0.1");
     /// assert!(RecordBuf::new(&"a".parse::<Name>()?, 60, std::net::Ipv4Addr::LOCALHOST).is_err());
     /// # Ok::<(), dns_names_wire::Error>(())
     /// ```
@@ -77,7 +77,7 @@ impl RecordBuf {
     /// use dns_names_wire::{Class, Name, RecordBuf, RecordType};
     ///
     /// let record = RecordBuf::from_octets(&Name::root(), RecordType::from(65280), Class::CH, 0, &[1, 2])?;
-    /// assert_eq!(record.to_string(), ".\t0\tCH\tTYPE65280\t\\# 2 0102");
+    /// assert_eq!(record.to_string(), ". 0 CH TYPE65280 \\# 2 0102");
     /// # Ok::<(), dns_names_wire::Error>(())
     /// ```
     pub fn from_octets<'n>(
@@ -113,7 +113,7 @@ impl RecordBuf {
     ///
     /// let origin: Name = "example.".parse()?;
     /// let record = RecordBuf::from_text("www 1h IN CNAME @", &origin)?;
-    /// assert_eq!(record.to_string(), "www.example.\t3600\tIN\tCNAME\texample.");
+    /// assert_eq!(record.to_string(), "www.example. 3600 IN CNAME example.");
     /// let error = RecordBuf::from_text("www 1h IN A 192.0.2", &origin).unwrap_err();
     /// assert_eq!(error.kind(), ErrorKind::BadData);
     /// # Ok::<(), dns_names_wire::Error>(())
@@ -135,7 +135,7 @@ impl RecordBuf {
     ///
     /// let name: Name = "a.".parse()?;
     /// let record = RecordBuf::from_data_text(&name, 60, RecordType::MX, "10 b", Some(&name))?;
-    /// assert_eq!(record.to_string(), "a.\t60\tIN\tMX\t10 b.a.");
+    /// assert_eq!(record.to_string(), "a. 60 IN MX 10 b.a.");
     /// assert!(RecordBuf::from_data_text(&name, 60, RecordType::MX, "10 b", None).is_err());
     /// # Ok::<(), dns_names_wire::Error>(())
     /// ```
@@ -167,7 +167,7 @@ impl RecordBuf {
     /// use dns_names_wire::{Class, RecordBuf};
     ///
     /// let record = "a. 1 IN TXT b".parse::<RecordBuf>()?.with_class(Class::CH);
-    /// assert_eq!(record.to_string(), "a.\t1\tCH\tTXT\t\"b\"");
+    /// assert_eq!(record.to_string(), "a. 1 CH TXT \"b\"");
     /// # Ok::<(), dns_names_wire::Error>(())
     /// ```
     pub fn with_class(mut self, class: Class) -> Self {

@@ -28,7 +28,7 @@ const LENGTH_SIZE: usize = 2;
 /// // The same data in a record with a lower TTL, which the set then has
 /// assert!(!set.insert_record(&"WWW.example. 30 A 192.0.2.1".parse::<RecordBuf>()?)?);
 /// assert_eq!((set.len(), set.ttl()), (2, 30));
-/// assert_eq!(set.to_string(), "www.example.\t30\tIN\tA\t192.0.2.1\nwww.example.\t30\tIN\tA\t192.0.2.2\n");
+/// assert_eq!(set.to_string(), "www.example. 30 IN A 192.0.2.1\nwww.example. 30 IN A 192.0.2.2\n");
 /// # Ok::<(), dns_names_wire::Error>(())
 /// ```
 #[derive(Clone)]

@@ -208,7 +208,7 @@ impl<'m> MessageWriter<'m> {
     /// let mut room = [0; 512];
     /// let mut writer = MessageWriter::new(&mut room, 512, &Header::default())?;
     /// writer.data(Section::Answers, &Name::root(), 60, std::net::Ipv4Addr::LOCALHOST)?;
-    /// assert_eq!(Message::read(writer.octets())?.answers().next().unwrap().to_string(), ".\t60\tIN\tA\t127.0.0.1");
+    /// assert_eq!(Message::read(writer.octets())?.answers().next().unwrap().to_string(), ". 60 IN A 127.0.0.1");
     /// # Ok::<(), dns_names_wire::Error>(())
     /// ```
     pub fn data<'n, 'd>(

@@ -314,13 +314,11 @@ fn an_update_has_its_titles() {
 ;example.\tIN\tSOA
 
 ;; PREREQUISITE SECTION:
-a.example.\t0\tNONE\tANY
+a.example. 0 NONE ANY
 
 ;; UPDATE SECTION:
-b.example.\t60\tIN\tA\t192.0.2.1
-";
-    let printed = Message::read(&octets).unwrap().to_string();
-    assert_eq!(printed.lines().map(str::trim_end).collect::<Vec<_>>(), lines.lines().collect::<Vec<_>>());
+b.example. 60 IN A 192.0.2.1";
+    assert_eq!(Message::read(&octets).unwrap().to_string(), lines);
 }
 
 /// A request is whole or fails: half an UPDATE is another UPDATE (RFC 2136, section 3.4.2). So is a transfer.
@@ -793,7 +791,7 @@ fn records_are_parsed_and_shown() {
         let parsed = record(line);
         assert_eq!(parsed.as_wire(), octets(hex), "{line}");
         // Hexadecimal digits are printed in lower or upper case.
-        assert_eq!(parsed.to_string().replace('\t', " ").to_lowercase(), line.to_lowercase());
+        assert_eq!(parsed.to_string().to_lowercase(), line.to_lowercase());
         assert_eq!(record(&parsed.to_string()), parsed);
         let again = RecordBuf::new(parsed.owner(), parsed.ttl(), parsed.data().unwrap()).unwrap();
         assert_eq!(again.with_class(parsed.class()), parsed);
@@ -955,7 +953,7 @@ fn data_of_more_types_have_their_octets() {
 #[test]
 fn texts_have_comments_and_parentheses() {
     let record: RecordBuf = "a. 60 TXT ( \"v=DKIM1; k=rsa; \" ; the key\n \"p=ab\" )\n".parse().unwrap();
-    assert_eq!(record.to_string().replace('\t', " "), "a. 60 IN TXT \"v=DKIM1; k=rsa; \" \"p=ab\"");
+    assert_eq!(record.to_string(), "a. 60 IN TXT \"v=DKIM1; k=rsa; \" \"p=ab\"");
     for (text, kind) in [
         ("( b", ErrorKind::UnclosedList),
         ("b )", ErrorKind::IllegalCharacter),

@@ -46,7 +46,7 @@ fn a_referral_is_written_and_read() {
     assert_eq!((ns.record_type().to_string(), ns.class().to_string()), ("NS".into(), "IN".into()));
     assert_eq!((ns.data_name(), ns.data_offset()), (Ok(name("ns.example.com.")), 45));
     assert_eq!((a.raw_data(), a.end()), (&[192, 0, 2, 1][..], 66));
-    assert_eq!(format!("{a}"), "ns.example.com.\t172800\tIN\tA\t192.0.2.1");
+    assert_eq!(format!("{a}"), "ns.example.com. 172800 IN A 192.0.2.1");
 }
 
 /// At every maximum, by the number or by the buffer, as many items as have room, each whole; and the message is complete.

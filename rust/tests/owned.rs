@@ -95,7 +95,7 @@ fn data_are_owned_and_lent() {
         assert_eq!(owned::RData::try_from(record.as_record()), Ok(own.clone()));
         assert_eq!(own.to_wire().unwrap(), record.raw_data(), "{line}");
         assert_eq!((own.to_string(), format!("{own:?}")), (borrowed.to_string(), format!("{borrowed:?}")));
-        assert_eq!(record.to_string(), format!("a.\t60\tIN\t{}\t{own}", record.record_type()));
+        assert_eq!(record.to_string(), format!("a. 60 IN {} {own}", record.record_type()));
         assert_eq!(RecordBuf::new(&name("a."), 60, &own).unwrap(), record);
     }
 }
@@ -154,7 +154,7 @@ fn records_are_grouped() {
     let seen: Vec<_> = sets.iter().map(|set| (set.owner().to_string(), set.len(), set.ttl(), set.class())).collect();
     let wanted = [("a.", 2, 5, Class::IN), ("a.", 1, 60, Class::IN), ("a.", 1, 7, Class::CH), ("b.", 1, 1, Class::IN)];
     assert!(seen.iter().map(|(owner, len, ttl, class)| (&owner[..], *len, *ttl, *class)).eq(wanted));
-    assert_eq!(format!("{:?}", sets[1]), "RecordSet[RecordBuf(a.\t60\tIN\tA\t192.0.2.1)]");
+    assert_eq!(format!("{:?}", sets[1]), "RecordSet[RecordBuf(a. 60 IN A 192.0.2.1)]");
     assert!(sets[0].records().eq([record("a. 5 NS b."), record("a. 5 NS c.")]));
     // Names are equal ignoring case, and texts are not.
     let mut texts = RecordSet::new(&name("a."), RecordType::TXT, Class::IN, 60);
@@ -195,8 +195,8 @@ fn what_is_no_part_of_a_set_changes_nothing() {
 #[test]
 fn debug_shows_text() {
     let line = record("a. 60 MX 10 b.");
-    assert_eq!(format!("{line:?}"), "RecordBuf(a.\t60\tIN\tMX\t10 b.)");
-    assert_eq!(format!("{:?}", line.as_record()), "Record(a.\t60\tIN\tMX\t10 b.)");
+    assert_eq!(format!("{line:?}"), "RecordBuf(a. 60 IN MX 10 b.)");
+    assert_eq!(format!("{:?}", line.as_record()), "Record(a. 60 IN MX 10 b.)");
     assert_eq!(format!("{:?}", line.data().unwrap()), "MX(MX { preference: 10, exchange: Name(\"b.\") })");
     let caa = record("a. 60 CAA 128 issue \"ca.net\"");
     assert_eq!(format!("{:?}", caa.data().unwrap()), "CAA(CAA { flags: 128, tag: \"issue\", value: \"ca.net\" })");

@@ -38,7 +38,7 @@ fn texts_are_parsed_and_printed() {
             "AMTRELAY" => format!("a. 60 IN AMTRELAY \\# {} {}", octets.len() / 2, octets.to_uppercase()),
             _ => format!("a. 60 IN {kind} {text}"),
         };
-        assert_eq!(record.to_string().replace('\t', " "), shown);
+        assert_eq!(record.to_string(), shown);
     }
 }
 

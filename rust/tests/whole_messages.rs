@@ -264,12 +264,12 @@ fn a_record_is_a_line() {
     // . CH TXT, of 250 strings of 255 octets, each printed as four characters
     let data: Vec<u8> = [&[255][..], &[0; 255]].concat().repeat(250);
     let octets = [&b"\0\0\x10\0\x03\0\0\0\x09\xFA\0"[..], &data].concat();
-    let line = format!(".\t9\tCH\tTXT\t{}", vec![format!("\"{}\"", "\\000".repeat(255)); 250].join(" "));
+    let line = format!(". 9 CH TXT {}", vec![format!("\"{}\"", "\\000".repeat(255)); 250].join(" "));
     assert_eq!(Record::read(&octets, 0).unwrap().to_string(), line);
     for (octets, line) in [
-        (&b"\0\0\x0F\0\x01\0\0\0\0\0\x01\x05"[..], ".\t0\tIN\tMX\t\\# 1 05"),
-        (b"\x02a \0\x00\x01\0\x01\0\0\0\0\0\x04\xC0\0\x02\x01", "a\\032.\t0\tIN\tA\t192.0.2.1"),
-        (b"\0\xFF\0\0\xFE\0\0\0\0\0\0", ".\t0\tNONE\tTYPE65280"),
+        (&b"\0\0\x0F\0\x01\0\0\0\0\0\x01\x05"[..], ". 0 IN MX \\# 1 05"),
+        (b"\x02a \0\x00\x01\0\x01\0\0\0\0\0\x04\xC0\0\x02\x01", "a\\032. 0 IN A 192.0.2.1"),
+        (b"\0\xFF\0\0\xFE\0\0\0\0\0\0", ". 0 NONE TYPE65280"),
     ] {
         assert_eq!(Record::read(octets, 0).unwrap().to_string(), line);
     }
@@ -283,26 +283,29 @@ fn a_message_is_shown_with_edns_or_with_what_is_none() {
     let lines = |status, count| {
         format!(
             ";; ->>HEADER<<- opcode: NOTIFY, status: {status}, id: 7\n\
-             ;; flags:; QUERY: 0, ANSWER: 0, AUTHORITY: 0, ADDITIONAL: {count}\n\n"
+             ;; flags:; QUERY: 0, ANSWER: 0, AUTHORITY: 0, ADDITIONAL: {count}\n"
         )
     };
     assert_eq!(
         Message::read(&one).unwrap().to_string(),
-        lines("BADVERS", 1) + ";; OPT PSEUDOSECTION:\n; EDNS: version: 0, flags: do; udp: 1232\n"
+        lines("BADVERS", 1) + "\n;; OPT PSEUDOSECTION:\n; EDNS: version: 0, flags: do; udp: 1232"
     );
     let options = b"\0\0\x29\x04\xD0\0\0\0\0\0\x15\0\x0F\0\x05\0\x06\xC3\xA9\x1B\0\x08\0\x04\0\0\0\0\xFF\xFF\0\0";
     assert_eq!(
         Message::read(&[&head[..], &[1], options].concat()).unwrap().to_string(),
         lines("NOERROR", 1)
-            + ";; OPT PSEUDOSECTION:\n; EDNS: version: 0, flags:; udp: 1232\n"
-            + "; EDE: 6 (DNSSEC Bogus): (\u{E9}.)\n; CLIENT-SUBNET: 0/0/0\n; OPT=65535:\n"
+            + "\n;; OPT PSEUDOSECTION:\n; EDNS: version: 0, flags:; udp: 1232\n"
+            + "; EDE: 6 (DNSSEC Bogus): (\u{E9}.)\n; CLIENT-SUBNET: 0/0/0\n; OPT=65535:"
     );
     assert_eq!(EdnsOption { code: u16::MAX, octets: &[0; 65535] }.to_string().len(), 4 * 65535 + 15);
     let two = [&head[..], &[2], opt, opt].concat();
-    let line = ".\t16809984\tCLASS1232\tOPT\t\\# 0\n";
+    let line = "\n. 16809984 CLASS1232 OPT \\# 0";
     assert_eq!(
         Message::read(&two).unwrap().to_string(),
-        lines("NOERROR", 2) + ";; ADDITIONAL SECTION:\n" + line + line
+        lines("NOERROR", 2)
+            + "\n;; WARNING: EDNS breaks a rule: more than one EDNS record\n\n;; ADDITIONAL SECTION:"
+            + line
+            + line
     );
 }
 

@@ -36,7 +36,7 @@ fn wanted() -> Vec<&'static str> {
 
 /// A record in a line, or an error.
 fn line(record: Result<RecordBuf, ZoneError>) -> String {
-    record.map_or_else(|error| error.to_string(), |record| record.to_string().replace('\t', " "))
+    record.map_or_else(|error| error.to_string(), |record| record.to_string())
 }
 
 /// An item in a line, or an error.

@@ -171,6 +171,12 @@ pub mod message {
     pub use dnw_message_read::response_code::ResponseCode;
 }
 
+/// Whole messages as text: in the layout of `dig`, and as JSON (RFC 8427).
+pub mod message_text {
+    pub use dnw_message_text::json::message_json;
+    pub use dnw_message_text::text::message_text;
+}
+
 /// Messages written item by item into a buffer of the caller: without an allocation, and with names that are compressed by hints,
 /// each of which is checked by reading.
 pub mod message_writer {
@@ -308,10 +314,10 @@ pub mod usage {
 /// Zone files, entry by entry (RFC 1035, section 5; RFC 2308, section 4), with the place of each error.
 pub mod zone {
     pub use dnw_zone_checks::checks::{CheckError, check_zone};
+    pub use dnw_zone_checks::finding::{Check, Finding};
     pub use dnw_zone_file::context::Context;
     pub use dnw_zone_file::entry::{Entry, Include, ZoneRecord, entry_of};
     pub use dnw_zone_file::error::{ZoneError, ZoneRule};
-    pub use dnw_zone_checks::finding::{Check, Finding};
     pub use dnw_zone_file::laws;
     pub use dnw_zone_file::place::{TextPlace, place_of};
     pub use dnw_zone_file::short_line::{append_origin, append_short_record, append_ttl};

@@ -1,4 +1,5 @@
 pub mod PrintCalls
+pub mod MessagePrintCalls
 pub mod ParseCalls
 pub mod Reasons
 pub mod FaultCalls

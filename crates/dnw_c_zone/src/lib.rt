@@ -1,14 +1,17 @@
 //! The functions of the C library for the texts of master files: records, tokens, times to live, and the codes of types and
-//! classes; and for serial numbers. `include/dns_names_wire.h` says what each takes and returns, and `tools/c-library` joins them
-//! with those of `dnw_c_names`.
+//! classes; for messages as text; and for serial numbers. `include/dns_names_wire.h` says what each takes and returns, and
+//! `tools/c-library` joins them with those of `dnw_c_names`.
 //!
 //! A slice is passed as a pointer and then a length, and results are put into structs and buffers of the caller. Every input is
 //! tested, whatever the caller promises, and nothing is kept from one call to the next. Read `specs/PrintCalls.antt` first: what
-//! a call puts of a record; and then `specs/ParseCalls.antt`: what it puts of a text, and `specs/FaultCalls.antt`: where a text goes wrong.
+//! a call puts of a record, and `specs/MessagePrintCalls.antt`: what it puts of a message; and then `specs/ParseCalls.antt`: what it
+//! puts of a text, and `specs/FaultCalls.antt`: where a text goes wrong.
 #![tactic(auto)]
 
 /// Codes of types and classes, and serial numbers.
 pub mod codes;
+/// Messages as text.
+pub mod message_printing;
 /// Records and data that are texts.
 pub mod parsing;
 /// Records as text.

@@ -5,10 +5,6 @@
 
 /// What the words after `dnw message` ask for.
 mod command;
-/// Whole messages in the layout of `dig`.
-mod dig;
-/// Messages as JSON (RFC 8427).
-mod json;
 /// Many messages, one after the other.
 mod page;
 

@@ -10,6 +10,8 @@ mod ample;
 #[cfg(test)]
 mod ample_growing;
 #[cfg(test)]
+mod ample_messages;
+#[cfg(test)]
 mod ample_ordinary;
 #[cfg(test)]
 mod ample_texts;

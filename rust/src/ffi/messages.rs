@@ -1,5 +1,15 @@
 //! Whole messages.
 use super::*;
+use alloc::string::String;
+
+/// How a message is printed.
+#[derive(Clone, Copy)]
+pub(crate) enum Layout {
+    /// As `dig` does.
+    Dig,
+    /// As a JSON object (RFC 8427).
+    Json,
+}
 
 /// Checks a whole message.
 pub(crate) fn read_message(message: &[u8], max_pointers: usize) -> Result<Message, Error> {
@@ -46,6 +56,28 @@ pub(crate) fn print_option(code: u16, octets: &[u8], text: &mut Vec<u8>) -> Resu
 /// The bytes that are always enough for the text of an option with so many octets.
 fn option_text_size(len: usize) -> usize {
     4 * len + 128
+}
+
+/// Returns the text of a message.
+pub(crate) fn print_message(message: &[u8], max_pointers: usize, layout: Layout) -> Result<String, Error> {
+    let print = match layout {
+        Layout::Dig => dnw_message_print,
+        Layout::Json => dnw_message_json,
+    };
+    let mut text = Vec::with_capacity(USUAL_SIZE);
+    loop {
+        let (mut part, start, room) = (PrintedPart::default(), text.len(), text.spare_capacity_mut());
+        let (first, size) = (room.as_mut_ptr().cast(), room.len());
+        // SAFETY: pointers with their lengths, see the module; and the room is not read.
+        let number = unsafe { print(message.as_ptr(), message.len(), max_pointers, start, first, size, &mut part) };
+        outcome(number, ())?;
+        // SAFETY: these bytes of the room were written.
+        unsafe { text.set_len(start + part.len) };
+        if text.len() == part.total {
+            return Ok(String::from_utf8(text).expect("the C library's texts are UTF-8"));
+        }
+        text.reserve(part.total - text.len());
+    }
 }
 
 /// Replaces `packed` with a whole message, compressed, in at most `max_size` octets, and padded to a multiple of `block`

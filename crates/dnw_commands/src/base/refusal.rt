@@ -3,7 +3,7 @@
 use crate::base::misuse::Misuse;
 use dns_names_wire::data_text::RecordEntryError;
 use dns_names_wire::dnssec::DnssecError;
-use dns_names_wire::message::{EdnsError, MessageError};
+use dns_names_wire::message::MessageError;
 use dns_names_wire::message_writer::WriteError;
 use dns_names_wire::name_text::NameTextError;
 use dns_names_wire::rdata::RDataError;
@@ -59,17 +59,9 @@ pub(crate) enum Refusal {
     /// The options of a query are too many.
     #[error("refused: the options have more than 32768 octets")]
     Options,
-    /// An `OPT` record is outside the additional section, or a name or a record could not be read.
+    /// A name or a record could not be read.
     #[error("refused: {0}")]
     Decode(DecodeError),
-    /// What the additional section says by EDNS was refused.
-    #[error("refused: Additionals from offset {offset} on: {error}")]
-    Edns {
-        /// The offset at which the additional records begin.
-        offset: usize,
-        /// What is wrong.
-        error: EdnsError,
-    },
     /// A message has no room for an item.
     #[error("refused: {0}")]
     Write(WriteError),

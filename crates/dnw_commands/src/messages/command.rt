@@ -2,9 +2,8 @@
 
 use crate::base::{Given, Known, Refusal, Watch, contents, octets};
 use crate::messages::page::Page;
-use crate::messages::{dig, json};
-use dns_names_wire::error::DecodeError;
-use dns_names_wire::message::{EdnsError, MessageRef};
+use dns_names_wire::message::MessageRef;
+use dns_names_wire::message_text::{message_json, message_text};
 use std::alloc::Global;
 use std::io::Read;
 use std::rt::Files;
@@ -131,25 +130,10 @@ fn digits_of(alloc: Global, given: &[u8]) -> Result<Option<String>, Refusal> {
 
 /// Returns a message as it is to be shown.
 pub(crate) fn shown(alloc: Global, octets: &[u8], layout: Layout) -> Result<String, Refusal> {
-    match layout {
-        Layout::Dig => dig::listing(alloc, octets),
-        Layout::Json => json::line(alloc, octets),
-    }
-}
-
-/// Returns what a message says by EDNS, or why it says nothing, and where its additional records begin.
-pub(crate) fn in_additionals<T: Drop>(
-    message: &MessageRef<'_>,
-    found: Result<T, EdnsError>,
-) -> Result<T, Refusal> {
-    match found {
-        Ok(found) => Ok(found),
-        Err(EdnsError::Decode(DecodeError::RecordNotInAdditionalSection(record_type))) => {
-            Err(Refusal::Decode(DecodeError::RecordNotInAdditionalSection(record_type)))
-        }
-        Err(error) => Err(Refusal::Edns {
-            offset: message.section_offsets().additionals,
-            error,
-        }),
-    }
+    let message = MessageRef::read(octets)?;
+    let text = match layout {
+        Layout::Dig => message_text(alloc, &message),
+        Layout::Json => message_json(alloc, &message),
+    };
+    Ok(text?)
 }

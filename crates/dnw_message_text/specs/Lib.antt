@@ -1,0 +1,5 @@
+pub mod Parts
+pub mod Headers
+pub mod MessageTexts
+pub mod JsonStrings
+pub mod JsonTexts
