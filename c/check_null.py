@@ -52,6 +52,7 @@ SAMPLES = {
     "dnw_data_text_fault": {"record_class": 1, "record_type": 15, "text": b"mail"},
     "dnw_text_fault_print": {"fault": b"\1"},
     "dnw_zone_next": {"text": b"www 60 IN MX 10 mail\n"},
+    "dnw_zone_read": {"text": b"www 60 IN MX 10 mail\n"},
     "dnw_zone_put_record": {"message": MESSAGE, "start": 29},
     "dnw_zone_check": {"zone": ZONE, "records": SOA + ADDRESS},
     "dnw_signed_octets": {"message": SIGNED, "section_end": len(SIGNED), "start": 12, "rrsig": 12},
@@ -88,7 +89,7 @@ SAMPLES = {
 # What finds a fault returns its number, and dnw_error_text the length of a text.
 NOT_DONE = ("dnw_name_text_fault", "dnw_error_text")
 # What pointers with a number after them lead to.
-COUNTED = ("uint8_t", "uint16_t", "size_t", "struct dnw_row", "struct dnw_zone_finding")
+COUNTED = ("uint8_t", "uint16_t", "size_t", "struct dnw_row", "struct dnw_zone_finding", "struct dnw_zone_row")
 SCALARS = {
     "bool": ctypes.c_bool,
     "uint8_t": ctypes.c_uint8,

@@ -524,6 +524,39 @@ static void reads_zones(size_t size)
     takes("a comment", DNW_ZONE_NOTHING, 0);
 }
 
+/* So many records, each in so many octets, lines and words, with as many blank lines and comments, are rows of one call. */
+static void reads_rows(size_t size)
+{
+    static struct dnw_zone_row rows[MOST];
+    static const char *const records[] = {". 60 A 192.0.2.1\n", "\n;\n. 60 IN A ( 192.0.2.1 ; c\n)\n"};
+    for (size_t kind = 0; kind < 2; kind++) {
+        struct dnw_zone zone;
+        struct dnw_zone_read got;
+        if (size * strlen(records[kind]) > sizeof input)
+            continue;
+        input_len = 0;
+        for (size_t n = 0; n < size; n++)
+            put(records[kind], strlen(records[kind]));
+        EXPECT(dnw_zone_begin((const uint8_t *)"", 1, &zone) == DNW_DONE);
+        EXPECT(dnw_zone_read(input, input_len, false, &zone, rows, MOST, output, sizeof output, &got) == DNW_DONE);
+        EXPECT(got.row_count == size && got.octets_len == 15 * size && got.used == input_len);
+        EXPECT(got.next == (size == MOST ? DNW_ZONE_RECORD : DNW_ZONE_END));
+    }
+    if (size > LONGEST)
+        return;
+    struct dnw_zone zone;
+    struct dnw_zone_read got;
+    input_len = 0;
+    put(". 60 NULL \\# ", 13);
+    char text[24];
+    put(text, (size_t)snprintf(text, sizeof text, "%zu", size));
+    for (size_t n = 0; n < size; n++)
+        put(" 41", 3);
+    EXPECT(dnw_zone_begin((const uint8_t *)"", 1, &zone) == DNW_DONE);
+    EXPECT(dnw_zone_read(input, input_len, false, &zone, rows, 2, output, sizeof output, &got) == DNW_DONE);
+    EXPECT(got.row_count == 1 && rows[0].data_len == size && got.next == DNW_ZONE_END);
+}
+
 /* A record with so many octets of data is put with its owner, and again without it. */
 static void puts_records(size_t size)
 {
@@ -669,6 +702,7 @@ static const struct row {
     {"dnw_data_text_fault", finds_data_faults},
     {"dnw_text_fault_print", prints_faults},
     {"dnw_zone_next", reads_zones},
+    {"dnw_zone_read", reads_rows},
     {"dnw_zone_put_record", puts_records},
     {"dnw_zone_put_origin", puts_origins},
     {"dnw_zone_put_ttl", puts_times},

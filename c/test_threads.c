@@ -81,6 +81,10 @@ static void call_texts(struct results *results)
     struct dnw_zone_entry entry;
     KEEP(dnw_zone_begin(BYTES("\001a\000"), &state), "", 0);
     KEEP(dnw_zone_next(BYTES("b 1 MX ( 1\n c )\n"), false, &state, buffer, sizeof buffer, &entry), buffer, entry.len);
+    uint8_t room[DNW_ZONE_OCTETS_SIZE];
+    struct dnw_zone_row row;
+    struct dnw_zone_read got;
+    KEEP(dnw_zone_read(BYTES("b 1 MX ( 1\n c )\n"), false, &state, &row, 1, room, sizeof room, &got), room, got.octets_len);
 }
 
 static void call_messages(struct results *results)

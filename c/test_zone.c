@@ -310,6 +310,118 @@ static void lacks_room(void)
     }
 }
 
+/* Entries that are read in one call, into so many rows and octets. A call that fails stores nothing. */
+enum { ROWS = 16, ALL_OCTETS = 4 * DNW_ZONE_OCTETS_SIZE };
+static struct dnw_zone_row rows[ROWS + 1];
+static uint8_t row_octets[ALL_OCTETS];
+static struct dnw_zone_read got;
+
+static uint32_t read_in(const char *text, size_t len, bool more, size_t most, size_t size)
+{
+    static uint8_t rest[ALL_OCTETS];
+    struct dnw_zone was = zone;
+    struct dnw_zone_row row;
+    memset(rest, 0xAA, sizeof rest);
+    memset(&row, 0xAA, sizeof row);
+    memset(rows, 0xAA, sizeof rows);
+    memset(row_octets, 0xAA, sizeof row_octets);
+    memset(&got, 0xAA, sizeof got);
+    uint32_t answer = dnw_zone_read((const uint8_t *)text, len, more, &zone, rows, most, row_octets, size, &got);
+    size_t row_count = answer == DNW_DONE ? got.row_count : 0, octets_len = answer == DNW_DONE ? got.octets_len : 0;
+    EXPECT(row_count <= most && octets_len <= size && memcmp(row_octets + octets_len, rest, sizeof rest - octets_len) == 0);
+    for (size_t n = row_count; n <= ROWS; n++)
+        EXPECT(memcmp(rows + n, &row, sizeof row) == 0);
+    if (answer != DNW_DONE)
+        EXPECT(memcmp(&zone, &was, sizeof was) == 0 && memcmp(&got, rest, sizeof got) == 0);
+    else
+        EXPECT(got.used <= len && zone.offset == was.offset + got.used);
+    return answer;
+}
+
+/* Says the lines of rows, each with the offset of its entry in the text. */
+static const char *say_rows(void)
+{
+    static uint8_t line[ROOM];
+    size_t end = 0;
+    lines_len = 0;
+    lines[0] = '\0';
+    for (size_t n = 0; n < got.row_count; n++) {
+        struct dnw_printed_record printed;
+        const struct dnw_zone_row *row = rows + n;
+        EXPECT(row->start == end && row->name_len + 10 + row->data_len == row->len);
+        end += row->len;
+        EXPECT(dnw_record_print(row_octets, end, row->start, line, sizeof line, &printed) == DNW_DONE && printed.end == end);
+        say_number(row->offset);
+        say_text(" ");
+        say((const char *)line, printed.len);
+        say_text("\n");
+    }
+    EXPECT(end == got.octets_len);
+    return lines;
+}
+
+/* Rows are the records of the entries up to what has no row, and the state is after these. */
+static void reads_rows(void)
+{
+    static const char text[] = "; c\n\n$TTL 5\na A 1.2.3.4\n A ( 1.2.3.5 ; c\n )\n\n$ORIGIN b.\nc 7 CH TXT x\n\n";
+    static const char wanted[] = "12 a.ISI.EDU. 5 IN A 1.2.3.4\n24 a.ISI.EDU. 5 IN A 1.2.3.5\n56 c.b. 7 CH TXT \"x\"\n";
+    EXPECT(dnw_zone_begin(BYTES(ISI), &zone) == DNW_DONE);
+    EXPECT(read_in(text, sizeof text - 1, false, ROWS, ALL_OCTETS) == DNW_DONE && got.next == DNW_ZONE_END);
+    EXPECT(strcmp(say_rows(), wanted) == 0 && got.used == sizeof text - 1);
+    EXPECT(zone.line == 10 && zone.column == 0 && zone.origin_len == 3 && zone.default_ttl == 5 && zone.last_ttl == 7);
+    EXPECT(zone.record_class == 3 && zone.owner_len == 5 && memcmp(zone.owner, "\001c\001b", 5) == 0);
+    EXPECT(rows[2].record_class == 3 && rows[2].record_type == DNW_TYPE_TXT && rows[2].ttl == 7 && rows[2].data_len == 2);
+    EXPECT(rows[1].start == rows[0].len && rows[1].name_len == 11 && rows[1].record_type == DNW_TYPE_A && rows[1].record_class == 1);
+}
+
+/* Without a row nothing is read, and with one up to the next record. No octet less is enough than any record may have. */
+static void reads_rows_at_the_limits(void)
+{
+    static const char text[] = "\n;\na 1 A 1.2.3.4\n\n;\nb A 1.2.3.5\n\n";
+    EXPECT(dnw_zone_begin(BYTES(ISI), &zone) == DNW_DONE);
+    EXPECT(read_in(text, sizeof text - 1, false, ROWS, DNW_ZONE_OCTETS_SIZE - 1) == DNW_NO_ROOM);
+    EXPECT(read_in(text, sizeof text - 1, false, 0, DNW_ZONE_OCTETS_SIZE - 1) == DNW_NO_ROOM);
+    EXPECT(read_in(text, sizeof text - 1, false, 0, DNW_ZONE_OCTETS_SIZE) == DNW_DONE);
+    EXPECT(got.next == DNW_ZONE_RECORD && got.used == 0 && got.row_count == 0);
+    EXPECT(read_in(text, sizeof text - 1, false, 1, ALL_OCTETS) == DNW_DONE && got.next == DNW_ZONE_RECORD && got.used == 17);
+    EXPECT(strcmp(say_rows(), "3 a.ISI.EDU. 1 IN A 1.2.3.4\n") == 0 && zone.line == 3);
+    EXPECT(read_in(text + 17, sizeof text - 18, false, 2, DNW_ZONE_OCTETS_SIZE) == DNW_DONE && got.next == DNW_ZONE_RECORD);
+    EXPECT(strcmp(say_rows(), "3 b.ISI.EDU. 1 IN A 1.2.3.5\n") == 0 && zone.line == 6);
+    EXPECT(read_in(text + zone.offset, sizeof text - 1 - zone.offset, false, 2, DNW_ZONE_OCTETS_SIZE) == DNW_DONE);
+    EXPECT(got.next == DNW_ZONE_END && got.row_count == 0 && got.used == 1 && zone.offset == sizeof text - 1);
+    /* two records of 25 octets have room where one may have as many as any */
+    EXPECT(dnw_zone_begin(BYTES(ISI), &zone) == DNW_DONE);
+    EXPECT(read_in(text, sizeof text - 1, false, ROWS, DNW_ZONE_OCTETS_SIZE + 24) == DNW_DONE && got.row_count == 1);
+    EXPECT(dnw_zone_begin(BYTES(ISI), &zone) == DNW_DONE);
+    EXPECT(read_in(text, sizeof text - 1, false, ROWS, DNW_ZONE_OCTETS_SIZE + 25) == DNW_DONE && got.row_count == 2 && got.next == DNW_ZONE_RECORD);
+    EXPECT(dnw_zone_begin(BYTES(ISI), &zone) == DNW_DONE);
+    EXPECT(read_in(text, sizeof text - 1, false, ROWS, DNW_ZONE_OCTETS_SIZE + 50) == DNW_DONE && got.row_count == 2 && got.next == DNW_ZONE_END);
+    zone.origin_len = 0;
+    EXPECT(read_in(text, sizeof text - 1, false, ROWS, ALL_OCTETS) == DNW_BAD_ITEM);
+    EXPECT(read_in(text, sizeof text - 1, false, ROWS, DNW_ZONE_OCTETS_SIZE - 1) == DNW_NO_ROOM);
+}
+
+/* It stops before what has no row: the call for one entry takes it, and the next call goes on after it. */
+static void rows_stop(void)
+{
+    static const char text[] = "a 1 A 1.2.3.4\n$INCLUDE f\n\nb A 1.2.3.256\nc A 1.2.3.4\nd A ( 1.2.3.5\n";
+    EXPECT(dnw_zone_begin(BYTES(ISI), &zone) == DNW_DONE);
+    EXPECT(read_in(text, sizeof text - 1, true, ROWS, ALL_OCTETS) == DNW_DONE && got.next == DNW_ZONE_INCLUDE);
+    EXPECT(strcmp(say_rows(), "0 a.ISI.EDU. 1 IN A 1.2.3.4\n") == 0 && zone.offset == 14);
+    next(text + 14, sizeof text - 15, true);
+    EXPECT(entry.kind == DNW_ZONE_INCLUDE && zone.offset == 25);
+    EXPECT(read_in(text + 25, sizeof text - 26, true, ROWS, ALL_OCTETS) == DNW_DONE && got.next == DNW_ZONE_ERROR);
+    EXPECT(got.row_count == 0 && got.used == 1 && zone.owner_len == 11 && zone.owner[1] == 'a');
+    next(text + 26, sizeof text - 27, true);
+    EXPECT(entry.kind == DNW_ZONE_ERROR && entry.line == 4);
+    EXPECT(read_in(text + zone.offset, sizeof text - 1 - zone.offset, true, ROWS, ALL_OCTETS) == DNW_DONE && got.next == DNW_ZONE_MORE);
+    EXPECT(strcmp(say_rows(), "0 c.ISI.EDU. 1 IN A 1.2.3.4\n") == 0 && got.used == 12);
+    EXPECT(read_in(text + zone.offset, sizeof text - 1 - zone.offset, false, ROWS, ALL_OCTETS) == DNW_DONE && got.next == DNW_ZONE_ERROR);
+    EXPECT(got.used == 0);
+    EXPECT(read_in("", 0, true, ROWS, ALL_OCTETS) == DNW_DONE && got.next == DNW_ZONE_MORE);
+    EXPECT(read_in("", 0, false, ROWS, ALL_OCTETS) == DNW_DONE && got.next == DNW_ZONE_END);
+}
+
 /* The state is plain data: a call fails or reads on, whatever it holds. */
 static void states_are_spoiled(void)
 {
@@ -427,6 +539,9 @@ static void reads_hostile_texts(void)
         for (size_t n = 0; n < sizeof text; n++)
             EXPECT(dnw_zone_next((const uint8_t *)text + n, sizeof text - n, false, &zone, octets, 0, &entry) == DNW_DONE && entry.used == 1);
         EXPECT(kind == 0 ? zone.line == sizeof text && zone.column == 0 : zone.line == 0 && zone.column == sizeof text);
+        struct dnw_zone after = zone;
+        EXPECT(dnw_zone_begin(BYTES(ROOT), &zone) == DNW_DONE && read_in(text, sizeof text, false, 1, ALL_OCTETS) == DNW_DONE);
+        EXPECT(got.next == DNW_ZONE_END && got.used == sizeof text && memcmp(&zone, &after, sizeof zone) == 0);
     }
 }
 
@@ -535,6 +650,9 @@ int main(void)
     reads_odd_lines();
     includes();
     lacks_room();
+    reads_rows();
+    reads_rows_at_the_limits();
+    rows_stop();
     states_are_spoiled();
     refuses_origins();
     writes_lines();

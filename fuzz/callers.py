@@ -38,7 +38,7 @@ WITHOUT_MODEL = {
 }
 NUMBERS = {"bool": 1, "uint8_t": 1, "uint16_t": 2, "uint32_t": 4, "size_t": 8, "int32_t": 4}
 # What holds the number of items that were stored in a buffer: a parameter, or a member of one.
-LENGTHS = ("len", "text_len", "data_len", "count", "owner_len")
+LENGTHS = ("len", "text_len", "data_len", "count", "owner_len", "octets_len")
 # Buffers whose number of items has another name, and those of which it is not stored.
 OTHER_LENGTHS = {"rows": "row_count", "names": "names_len", "order": ""}
 # What the first comment of the header says in whole.

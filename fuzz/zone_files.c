@@ -4,7 +4,7 @@
    the buffers is touched. Without room or memory nothing is stored. */
 #include "zone_reading.h"
 
-static struct room input, part, octets, fault;
+static struct room input, part, octets, fault, rows;
 
 enum { SIZE = DNW_ZONE_OCTETS_SIZE };
 
@@ -193,6 +193,82 @@ static void read_the_same(const uint8_t *text, size_t len, size_t first, size_t 
     CHECK(other.count == whole.count && other.len == whole.len && memcmp(other.bytes, whole.bytes, whole.len) == 0);
 }
 
+/* What one entry is of those that were read one by one. */
+struct wanted {
+    size_t fields[15];
+    const uint8_t *bytes;
+};
+
+static size_t next_wanted(const struct entries *from, size_t at, struct wanted *wanted)
+{
+    memcpy(wanted->fields, from->bytes + at, sizeof wanted->fields);
+    wanted->bytes = from->bytes + at + sizeof wanted->fields;
+    return at + sizeof wanted->fields + wanted->fields[9];
+}
+
+/* A row is the record that was read alone, and its octets. */
+static void is_row(const struct dnw_zone_row *row, const struct wanted *wanted, size_t offset, size_t start, const uint8_t *bytes)
+{
+    CHECK(row->offset == offset && row->start == start && row->len == wanted->fields[9] && row->name_len == wanted->fields[10]);
+    CHECK(row->data_len == wanted->fields[11] && row->ttl == wanted->fields[12] && row->record_type == wanted->fields[13]);
+    CHECK(row->record_class == wanted->fields[14] && memcmp(bytes + start, wanted->bytes, row->len) == 0);
+}
+
+/* Reads many entries a call, with so many rows and so much room beside what any record may have: they are those that were read one by
+   one, and the others come next. */
+static void read_rows(const uint8_t *text, size_t len, size_t most, size_t room)
+{
+    static const uint8_t origin[] = "\001o\000";
+    struct dnw_zone zone;
+    struct dnw_zone_read got;
+    struct dnw_zone_entry entry;
+    struct wanted wanted;
+    size_t at = 0, seen = 0;
+    const size_t rows_size = most * sizeof(struct dnw_zone_row);
+    CHECK(dnw_zone_begin(origin, sizeof origin - 1, &zone) == DNW_DONE);
+    for (;;) {
+        struct dnw_zone_row *put = (struct dnw_zone_row *)clear(&rows, rows_size);
+        uint8_t *bytes = clear(&octets, SIZE + room);
+        struct dnw_zone was = zone;
+        CHECK(dnw_zone_read(text + at, len - at, false, &zone, put, most, bytes, SIZE - 1, &got) == DNW_NO_ROOM);
+        CHECK(memcmp(&zone, &was, sizeof was) == 0 && untouched(bytes, SIZE + room) && untouched((uint8_t *)put, rows_size));
+        CHECK(dnw_zone_read(text + at, len - at, false, &zone, put, most, bytes, SIZE + room, &got) == DNW_DONE);
+        CHECK(holds(bytes, SIZE + room, bytes, got.octets_len) && got.used <= len - at && zone.offset == at + got.used);
+        CHECK(got.row_count <= most && holds((uint8_t *)put, rows_size, put, got.row_count * sizeof *put));
+        size_t used = 0, start = 0;
+        for (size_t n = 0; used < got.used;) {
+            seen = next_wanted(&whole, seen, &wanted);
+            CHECK(wanted.fields[0] == DNW_ZONE_NOTHING || wanted.fields[0] == DNW_ZONE_RECORD);
+            if (wanted.fields[0] == DNW_ZONE_RECORD) {
+                CHECK(n < got.row_count && n < most && start <= room);
+                is_row(put + n, &wanted, used, start, bytes);
+                start += put[n++].len;
+            }
+            used += wanted.fields[1];
+            CHECK(used < got.used || n == got.row_count);
+        }
+        CHECK(used == got.used && start == got.octets_len && (used > 0 || got.row_count == 0));
+        at += used;
+        if (got.next == DNW_ZONE_RECORD) {
+            CHECK(got.row_count == most || start > room);
+            if (most > 0)
+                continue;
+        }
+        if (got.next == DNW_ZONE_END) {
+            CHECK(at == len && seen == whole.len);
+            return;
+        }
+        was = zone;
+        CHECK(dnw_zone_next(text + at, len - at, false, &zone, clear(&octets, SIZE), SIZE, &entry) == DNW_DONE);
+        if (entry.kind == DNW_ZONE_END)
+            return;
+        CHECK(got.next == entry.kind || most == 0);
+        seen = next_wanted(&whole, seen, &wanted);
+        CHECK(wanted.fields[0] == entry.kind && wanted.fields[1] == entry.used);
+        at += entry.used;
+    }
+}
+
 /* A state of any octets. */
 static void read_spoiled(const uint8_t *data, size_t size)
 {
@@ -206,6 +282,10 @@ static void read_spoiled(const uint8_t *data, size_t size)
         CHECK(answer == DNW_DONE || memcmp(&file, &zone, sizeof zone) == 0);
         answer = take(data, size, calls % 2, &zone, clear(&octets, SIZE), SIZE, &entry);
         CHECK(answer == DNW_DONE || answer == DNW_BAD_ITEM);
+        struct dnw_zone_row row;
+        struct dnw_zone_read got;
+        CHECK((dnw_zone_read(data, size, calls % 2, &file, &row, 1, clear(&octets, SIZE), SIZE, &got) == DNW_DONE)
+              == (dnw_zone_read(data, size, calls % 2, &file, &row, 1, clear(&octets, SIZE), SIZE, &got) == DNW_DONE));
         zone.owner_len = calls < 4 ? 0 : zone.owner_len;
         if (answer != DNW_DONE && calls == 0)
             zone.origin_len = 1, zone.origin[0] = 0;
@@ -221,6 +301,12 @@ int LLVMFuzzerTestOneInput(const uint8_t *data, size_t size)
     if (size > 1) {
         read_the_same(text, size, data[0] * size / 256, 1 + data[1] % 16);
         read_the_same(text, size, data[size - 1] * size / 256, size);
+    }
+    if (whole.len + SIZE < sizeof whole.bytes) {
+        read_rows(text, size, 64, SIZE);
+        read_rows(text, size, 1, 0);
+        if (size > 1)
+            read_rows(text, size, data[0] % 4, data[1]);
     }
     read_spoiled(text, size);
     CHECK(memcmp(text, data, size) == 0);

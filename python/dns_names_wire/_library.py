@@ -193,6 +193,10 @@ class ZoneEntry(ctypes.Structure):
     ]
 
 
+class ZoneRead(ctypes.Structure):
+    _fields_ = [("used", c_size_t), ("row_count", c_size_t), ("octets_len", c_size_t), ("next", c_uint32)]
+
+
 class Net(ctypes.Structure):
     _fields_ = [("len", c_size_t), ("prefix_len", c_uint8)]
 
@@ -244,6 +248,7 @@ _FUNCTIONS = {
     "dnw_zone_begin": (*_READ, POINTER(Zone)),
     "dnw_zone_include": (*_READ, POINTER(Zone)),
     "dnw_zone_next": (*_READ, c_bool, POINTER(Zone), *_WRITTEN, POINTER(ZoneEntry)),
+    "dnw_zone_read": (*_READ, c_bool, POINTER(Zone), *_WRITTEN, *_WRITTEN, POINTER(ZoneRead)),
     "dnw_zone_put_record": (*_READ, c_size_t, POINTER(Zone), *_WRITTEN, POINTER(PrintedRecord)),
     "dnw_zone_put_origin": (*_READ, POINTER(Zone), *_WRITTEN, POINTER(c_size_t)),
     "dnw_zone_put_ttl": (c_uint32, POINTER(Zone), *_WRITTEN, POINTER(c_size_t)),
@@ -326,7 +331,7 @@ def by_address(name: str, count: int) -> Any:
 # Which arguments of these functions are octets.
 _OCTETS = {
     "dnw_message_write": (0,), "dnw_writer_query": (5,), "dnw_writer_reply": (3,), "dnw_message_table": (0,),
-    "dnw_name_sort_key": (0,), "dnw_zone_next": (),
+    "dnw_name_sort_key": (0,), "dnw_zone_next": (), "dnw_zone_read": (),
 }  # fmt: skip
 
 

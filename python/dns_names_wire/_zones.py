@@ -4,6 +4,7 @@ import ctypes
 import io
 import os
 import stat
+import struct
 from ctypes import byref, c_char, c_size_t
 from typing import Any, BinaryIO, Callable, Iterable, Iterator, List, NamedTuple, Optional, Tuple, Union
 
@@ -12,7 +13,7 @@ from ._checks import Bytes
 from ._data import NameLike
 from ._errors import DnsError, check
 from ._library import (
-    NO_ROOM, PrintedRecord, SentenceText, Zone, ZoneEntry, ZoneFinding as Finding, by_address, library, taken,
+    NO_ROOM, PrintedRecord, SentenceText, Zone, ZoneEntry, ZoneFinding as Finding, ZoneRead, by_address, library, taken,
 )
 from ._names import Name, whole_name
 from ._records import Record, own_record, record_of
@@ -24,13 +25,17 @@ _END, _MORE, _NOTHING, _RECORD, _INCLUDE, _ERROR = range(6)
 _WINDOW = 1 << 16
 _RECORD_SIZE = 65800
 _MOST = 1 << 24
+# The records that are read in one call, at most, the octets for them, and the members of the row of each.
+_ROWS = 256
+_ROWS_SIZE = _RECORD_SIZE + (1 << 15)
+_ROW = struct.Struct("NNNNNIHH")
 # The octets of a line that is written, at first: more than `$ORIGIN` and a name have.
 _LINE_SIZE = 2048
 # How deep files include others, and how many octets of a line are shown before and after what is wrong.
 _DEPTH = 10
 _SHOWN = 500
 
-_next = by_address("dnw_zone_next", 7)
+_next, _read = by_address("dnw_zone_next", 7), by_address("dnw_zone_read", 9)
 
 Path = Union[str, "os.PathLike[str]"]
 
@@ -127,8 +132,10 @@ class _Reader:
     def __init__(self, errors: Optional[Callable[[ZoneError], object]]) -> None:
         self.errors = errors
         self.files: List[_File] = []
-        self.entry, self.octets = ZoneEntry(), (c_char * _RECORD_SIZE)()
+        self.entry, self.octets = ZoneEntry(), (c_char * _ROWS_SIZE)()
         self.entry_at, self.octets_at = ctypes.addressof(self.entry), ctypes.addressof(self.octets)
+        self.rows, self.read = (c_char * (_ROWS * _ROW.size))(), ZoneRead()
+        self.rows_at, self.read_at = ctypes.addressof(self.rows), ctypes.addressof(self.read)
         self.owner: Optional[Name] = None
 
     def close(self) -> None:
@@ -149,13 +156,28 @@ class _Reader:
                 return _END
             file.read_on()
 
+    def take_rows(self, file: _File) -> Iterator[Record]:
+        """Yields the records that are next in the part of a file that is there, up to what is none, and passes them."""
+        read, kind = self.read, _RECORD
+        while kind == _RECORD:
+            start = ctypes.addressof(file.window) + file.at
+            arguments = start, file.there - file.at, file.more, ctypes.addressof(file.zone), self.rows_at, _ROWS
+            check(_read(*arguments, self.octets_at, _ROWS_SIZE, self.read_at))
+            octets = taken(self.octets, read.octets_len)
+            found = _ROW.iter_unpack(taken(self.rows, read.row_count * _ROW.size))
+            file.at, kind = file.at + read.used, read.next
+            for _, at, size, name_size, data_size, ttl, record_type, record_class in found:
+                yield self.made(octets[at : at + size], name_size, data_size, ttl, record_type, record_class)
+
     def records(self) -> Iterator[Record]:
         """Yields the records of the files, up to the end of the first one."""
         while self.files:
             file, entry = self.files[-1], self.entry
+            yield from self.take_rows(file)
             kind = self.take(file)
             if kind == _RECORD:
-                record = self.record()
+                wire = taken(self.octets, entry.len)
+                record = self.made(wire, entry.name_len, entry.data_len, entry.ttl, entry.record_type, entry.record_class)
                 file.at += entry.used
                 yield record
             elif kind == _ERROR:
@@ -174,14 +196,12 @@ class _Reader:
             raise error
         self.errors(error)
 
-    def record(self) -> Record:
-        """Returns the record that was taken."""
-        entry = self.entry
-        wire, size = taken(self.octets, entry.len), entry.name_len
+    def made(self, wire: bytes, name_size: int, data_size: int, ttl: int, record_type: int, record_class: int) -> Record:
+        """Returns the record that was taken, with its owner as an object that the record before may share."""
         owner = self.owner
-        if owner is None or owner.wire != wire[:size]:
-            owner = self.owner = Name._of(wire[:size], True)
-        return record_of(wire, owner, entry.record_type, entry.record_class, entry.ttl, len(wire) - entry.data_len)
+        if owner is None or owner.wire != wire[:name_size]:
+            owner = self.owner = Name._of(wire[:name_size], True)
+        return record_of(wire, owner, record_type, record_class, ttl, len(wire) - data_size)
 
     def include(self, file: _File) -> None:
         """Opens the file of the `$INCLUDE` that was taken, whose entries come next."""

@@ -546,6 +546,17 @@ extern "C" {
         octets_size: usize,
         entry: *mut ZoneEntry,
     ) -> u32;
+    fn dnw_zone_read(
+        text: *const u8,
+        text_len: usize,
+        more: bool,
+        zone: *mut Zone,
+        rows: *mut ZoneRow,
+        rows_size: usize,
+        octets: *mut u8,
+        octets_size: usize,
+        read: *mut ZoneRead,
+    ) -> u32;
     fn dnw_zone_put_record(
         message: *const u8,
         message_len: usize,

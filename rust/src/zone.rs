@@ -1,4 +1,5 @@
 //! Zone files, read entry by entry (RFC 1035, section 5; RFC 2308, section 4).
+use crate::error::Error;
 use crate::ffi;
 use crate::name::Name;
 use crate::name_ref::NameRef;
@@ -203,6 +204,38 @@ struct Entries {
     zone: ffi::Zone,
     entry: ffi::ZoneEntry,
     octets: Vec<u8>,
+    batch: Batch,
+}
+
+/// How many records are read at once, and the octets that there are for them beside those of the longest.
+const ROWS: usize = 128;
+const ROWS_SIZE: usize = 1 << 14;
+
+/// Records that were read at once, of which so many were taken, and so many octets of their text.
+#[derive(Clone)]
+struct Batch {
+    rows: Vec<ffi::ZoneRow>,
+    read: ffi::ZoneRead,
+    taken: usize,
+    passed: usize,
+}
+
+impl Batch {
+    fn new() -> Self {
+        Batch { rows: vec![ffi::ZoneRow::default(); ROWS], read: ffi::ZoneRead::default(), taken: 0, passed: 0 }
+    }
+
+    /// Takes the next record, and returns how many octets its entry has, with what is before the one after it.
+    fn take(&mut self) -> Option<usize> {
+        if self.taken == self.read.row_count {
+            return None;
+        }
+        self.taken += 1;
+        let end = if self.taken < self.read.row_count { self.rows[self.taken].offset } else { self.read.used };
+        let used = end - self.passed;
+        self.passed = end;
+        Some(used)
+    }
 }
 
 /// What was taken from a text.
@@ -234,18 +267,27 @@ impl Entries {
     }
 
     fn with_state(zone: ffi::Zone) -> Self {
-        Entries { zone, entry: ffi::ZoneEntry::default(), octets: vec![0; ffi::ZONE_OCTETS_SIZE] }
+        let octets = vec![0; ffi::ZONE_OCTETS_SIZE + ROWS_SIZE];
+        Entries { zone, entry: ffi::ZoneEntry::default(), octets, batch: Batch::new() }
     }
 
     /// Takes the first entry that has an item or is not valid, and those before it. Returns how many octets they have.
     fn take(&mut self, text: &[u8], more: bool) -> (usize, Taken) {
         let mut used = 0;
         loop {
+            if let Some(own) = self.batch.take() {
+                self.entry.kind = ffi::ZONE_RECORD;
+                return (used + own, Taken::Item);
+            }
             let left = &text[used..];
-            if let Err(error) = ffi::next_entry(left, more, &mut self.zone, &mut self.octets, &mut self.entry) {
+            if let Err(error) = self.read(left, more) {
+                let left = &left[self.batch.read.used..];
                 return (used, Taken::Failure(self.error_ahead(left, error.to_string()).caused_by(error)));
             }
-            used += self.entry.used;
+            if self.batch.read.row_count > 0 {
+                continue;
+            }
+            used += self.batch.read.used + self.entry.used;
             match self.entry.kind {
                 ffi::ZONE_END => return (used, Taken::End),
                 ffi::ZONE_MORE => return (used, Taken::Part),
@@ -255,16 +297,38 @@ impl Entries {
         }
     }
 
+    /// Reads the records that a text begins with, or the entry that it begins with if there are none.
+    fn read(&mut self, text: &[u8], more: bool) -> Result<(), Error> {
+        let (zone, batch) = (&mut self.zone, &mut self.batch);
+        (batch.read, batch.taken, batch.passed) = (ffi::ZoneRead::default(), 0, 0);
+        batch.read = ffi::read_entries(text, more, zone, &mut batch.rows, &mut self.octets)?;
+        if batch.read.row_count > 0 {
+            return Ok(());
+        }
+        ffi::next_entry(&text[batch.read.used..], more, zone, &mut self.octets, &mut self.entry)
+    }
+
     /// Returns the item of the entry that was taken, or why it is not valid. The text ends where the entry does.
     fn item(&self, text: &[u8]) -> Result<ZoneItem, ZoneError> {
         let (entry, octets) = (&self.entry, &self.octets[..self.entry.len]);
         match entry.kind {
-            ffi::ZONE_RECORD => Ok(ZoneItem::Record(RecordBuf::from_whole(octets, entry.name_len))),
+            ffi::ZONE_RECORD => Ok(ZoneItem::Record(self.record())),
             ffi::ZONE_INCLUDE => {
                 let origin = NameRef::checked(octets, 0, entry.name_len).to_name();
                 Ok(ZoneItem::Include(ZoneInclude { file: octets[entry.name_len..].to_vec(), origin }))
             }
             _ => Err(self.error(text, entry.fault.offset, ffi::fault_reason(&entry.fault))),
+        }
+    }
+
+    /// Returns the record that was taken.
+    fn record(&self) -> RecordBuf {
+        match self.batch.taken {
+            0 => RecordBuf::from_whole(&self.octets[..self.entry.len], self.entry.name_len),
+            taken => {
+                let row = &self.batch.rows[taken - 1];
+                RecordBuf::from_whole(&self.octets[row.start..row.start + row.len], row.name_len)
+            }
         }
     }
 

@@ -7,3 +7,5 @@ mod RecordPuts
 mod StateNames
 mod StateRooms
 mod StepNames
+mod StepRows
+mod ZoneRuns

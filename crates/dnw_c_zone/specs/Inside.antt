@@ -3,3 +3,4 @@ pub mod TokenParts
 pub mod StateResults
 pub mod RecordHeads
 pub mod StateNames
+pub mod RowSteps

@@ -10,4 +10,5 @@ pub mod ZonePlaces
 pub mod ZoneStates
 pub mod ZoneEntries
 pub mod ZoneFileCalls
+pub mod ZoneRows
 pub mod ZoneWriting

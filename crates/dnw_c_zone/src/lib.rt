@@ -30,6 +30,8 @@ pub mod zone_entry;
 pub mod zone_file;
 /// Places in zone files.
 pub mod zone_place;
+/// Many entries of zone files in one call.
+pub mod zone_rows;
 /// What is known of a zone file that is read.
 pub mod zone_state;
 /// Zone files that are written.

@@ -149,7 +149,7 @@ fn put_record(
 }
 
 /// Returns the octets of a record between its owner and its data.
-fn record_head(found: &ZoneRecord) -> [u8; HEAD]
+pub(crate) fn record_head(found: &ZoneRecord) -> [u8; HEAD]
     requires data { length found.now.wire.items ≤ max_data }
     ensures { result ≡ record_head found.now }
 {
@@ -161,7 +161,7 @@ fn record_head(found: &ZoneRecord) -> [u8; HEAD]
 }
 
 /// Puts three pieces, one after another, at the front of a buffer.
-fn put_pieces(buffer: &mut [u8], first: &[u8], second: &[u8], third: &[u8])
+pub(crate) fn put_pieces(buffer: &mut [u8], first: &[u8], second: &[u8], third: &[u8])
     requires { length first.now + length second.now + length third.now ≤ length buffer.old }
     ensures { buffer.new ≡ put buffer.old (first.now ++ second.now ++ third.now) }
 {

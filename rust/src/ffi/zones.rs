@@ -64,6 +64,30 @@ pub(crate) struct ZoneEntry {
     pub(crate) record_class: u16,
 }
 
+/// `struct dnw_zone_row`
+#[repr(C)]
+#[derive(Clone, Copy, Default)]
+pub(crate) struct ZoneRow {
+    pub(crate) offset: usize,
+    pub(crate) start: usize,
+    pub(crate) len: usize,
+    pub(crate) name_len: usize,
+    pub(crate) data_len: usize,
+    pub(crate) ttl: u32,
+    pub(crate) record_type: u16,
+    pub(crate) record_class: u16,
+}
+
+/// `struct dnw_zone_read`
+#[repr(C)]
+#[derive(Clone, Copy, Default)]
+pub(crate) struct ZoneRead {
+    pub(crate) used: usize,
+    pub(crate) row_count: usize,
+    pub(crate) octets_len: usize,
+    pub(crate) next: u32,
+}
+
 /// Returns the state before the first entry of a zone file, whose origin is this wire form.
 pub(crate) fn begin_zone(origin: &[u8]) -> Result<Zone, Error> {
     let mut zone = Zone {
@@ -107,6 +131,23 @@ pub(crate) fn next_entry(
     // SAFETY: pointers with their lengths, see the module, and pointers to structs of these types.
     let number = unsafe { dnw_zone_next(text.as_ptr(), text.len(), more, zone, first, size, entry) };
     outcome(number, ())
+}
+
+/// Takes the records that a text begins with, up to what is none, into rows and a room of `ZONE_OCTETS_SIZE` octets or more.
+#[inline]
+pub(crate) fn read_entries(
+    text: &[u8],
+    more: bool,
+    zone: &mut Zone,
+    rows: &mut [ZoneRow],
+    room: &mut [u8],
+) -> Result<ZoneRead, Error> {
+    let (mut read, first, size) = (ZoneRead::default(), room.as_mut_ptr(), room.len());
+    let (row, rows_size) = (rows.as_mut_ptr(), rows.len());
+    // SAFETY: pointers with their lengths, see the module, and pointers to structs of these types.
+    let number =
+        unsafe { dnw_zone_read(text.as_ptr(), text.len(), more, zone, row, rows_size, first, size, &mut read) };
+    outcome(number, read)
 }
 
 /// Appends a record of a message to a zone file, as a line after the entries of the state, and moves the state after it.
