@@ -2,7 +2,7 @@
 ghost use Rattle.std.specs.Prelude.{◌≡◌, ◌≤◌, ℕ, drop, IfOk, IfErr};
 ghost use Rattle.dnw_c_base.specs.Results.{Returns};
 ghost use Rattle.dnw_message_read.specs.Messages.{MessageAt};
-ghost use Rattle.dnw_c_zone.specs.MessagePrintCalls.{HasNoMessage, IsPart, PutsMessage, of_message};
+ghost use Rattle.dnw_c_zone.specs.MessagePrintCalls.{HasNoMessage, IsPart, PutsMessage, PutsText, of_message};
 
 use dnw_c_base::failure::{Failure, of_decode};
 use dnw_c_base::results::report;
@@ -10,7 +10,7 @@ use dnw_message_read::error::MessageErrorKind;
 use dnw_message_read::message::MessageRef;
 use dnw_message_text::json::message_json;
 use dnw_message_text::text::message_text;
-use std::alloc::Global;
+use std::alloc::{AllocError, Global};
 
 /// A part of a text that was put: its number of bytes, and that of the whole text.
 #[repr(C)]
@@ -64,8 +64,7 @@ fn print(
     ensures { PutsMessage octets.now max_pointers start text.old text.new result }
 {
     let message = read(octets, max_pointers)?;
-    let whole = message_text(alloc, &message)?;
-    Ok(put_part(text, whole.as_bytes(), start))
+    put_whole(text, message_text(alloc, &message), start)
 }
 
 /// Puts a part of a message as JSON.
@@ -79,8 +78,7 @@ fn print_json(
     ensures { PutsMessage octets.now max_pointers start text.old text.new result }
 {
     let message = read(octets, max_pointers)?;
-    let whole = message_json(alloc, &message)?;
-    Ok(put_part(text, whole.as_bytes(), start))
+    put_whole(text, message_json(alloc, &message), start)
 }
 
 /// Reads the message that octets begin with.
@@ -102,6 +100,18 @@ fn of_message(kind: &MessageErrorKind) -> Failure
         MessageErrorKind::Decode(error) => of_decode(error),
         MessageErrorKind::TooManyPointers => Failure::TooManyPointers,
     }
+}
+
+/// Puts a part of a text, if memory did not run out.
+fn put_whole(
+    buffer: &mut [u8],
+    whole: Result<String, AllocError>,
+    start: usize,
+) -> Result<PrintedPart, Failure>
+    ensures { PutsText start buffer.old buffer.new result }
+{
+    let whole = whole?;
+    Ok(put_part(buffer, whole.as_bytes(), start))
 }
 
 /// Puts as much of a text, from an offset on, as there is room for.
