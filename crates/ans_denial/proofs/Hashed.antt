@@ -7,15 +7,18 @@ use Rattle.std.specs.Cmp.{both_ways}
 use Rattle.std.specs.Cmp.Lexicographic.{bytes_decides}
 use Rattle.std.specs.List.{AllByRecursion, find, list_any}
 use Rattle.std.specs.Option.{option_map, unwrap_or}
-use Rattle.dns_names_wire.specs.Words.{RecordValue, is_in, lower, ns_code, soa_code, wildcard}
-use Rattle.ans_store.specs.Zones.{IsZone, ZoneValue, name_exists, owned_by}
+use Rattle.dns_names_wire.specs.Words.{RecordValue, ds_code, is_in, lower, ns_code, soa_code, wildcard}
+use Rattle.ans_store.specs.Zones.{IsZone, ZoneValue, have_type, name_exists, owned_by}
 use Rattle.ans_answer.proofs.Down.{if_not_true, nothing_owned}
 use Rattle.ans_answer.specs.Outcomes.{Synthesised, encloser, outcome, sent_above}
 use Rattle.ans_denial.specs.Chains.{HasNsec, is_due}
 use Rattle.ans_denial.specs.Hashes.{Nsec3Value, climb, covering_record, covers_hash, covers_whole, expands, has_hash, hashed_existence, own_record, said_below, said_next}
 use Rattle.ans_denial.specs.HashedChains.{ExpansionsAreSound, HasNsec3, HashedDenialsAreSound, IsOfHashedChain, IsOneToOne}
 use Rattle.ans_denial.specs.Seen.{last_labels}
-use Rattle.ans_denial.specs.Nsecs.{Missing, Owns, lists, sends_below}
+use Rattle.ans_denial.specs.Soundness.{Remains}
+use Rattle.ans_denial.specs.declared.denial.Reason.TheVariants.{OptOut}
+use Rattle.ans_denial.proofs.Referring.{referred}
+use Rattle.ans_denial.specs.Nsecs.{Missing, Owns, Unknown, lists, sends_below}
 use Rattle.ans_denial.proofs.Covering.{AreTypesOf, encloser_self, owner_exists, sends_none}
 use Rattle.ans_denial.proofs.Holding.{Holds, IsMissing, IsOwner, types_alike}
 use Rattle.ans_denial.proofs.Names.{any_more, in_alike, in_last, in_trans}
@@ -131,6 +134,21 @@ module _ (hash : List (List ℕ) → List ℕ) (zone : ZoneValue) where
           above = encloser_below_gone zone front (label ∷ above) gone ∙ encloser_next zone label above gone there;
         }
 
+    -- A delegation that is at or below a name whose hash is covered has no DS records.
+    left_out : (front : List (List ℕ)) (label : List ℕ) (above : List (List ℕ)) (other : Nsec3Value) → is_in zone.apex above ≡ true
+        → sent_above zone (label ∷ above) ≡ None → covering_record hash nsecs (label ∷ above) ≡ Some other
+        → Remains zone (front ++ (label ∷ above)) OptOut
+    left_out front label above other inside free is code records said =
+        let (cut, has, below, owned) = referred zone (label ∷ above) free front code records said in
+        let (passes, link) = found_is (IsOfHashedChain hash zone) (covers_hash (hash (label ∷ above))) nsecs other all is in
+        let own : HasNsec3 zone (label ∷ above) =
+        record {
+          inside = in_trans zone.apex above (label ∷ above) inside (in_last (label ∷ []) above);
+          there = owner_exists (label ∷ above) cut zone.records below has.owns;
+          not_sent = free;
+        } in
+        subst (λ (rs : List RecordValue). have_type ds_code rs ≡ false) (sym owned) ((link.nearest (label ∷ above) own passes).1 cut has below).1
+
     next_holds : (front : List (List ℕ)) (label : List ℕ) (above : List (List ℕ)) (nsec : Nsec3Value) (o : Option Nsec3Value) → is_in zone.apex above ≡ true
         → IsOwner zone above nsec.types → covering_record hash nsecs (label ∷ above) ≡ o → Holds zone (front ++ (label ∷ above)) (said_below above nsec o)
     unfolding said_below said_next
@@ -138,7 +156,9 @@ module _ (hash : List (List ℕ) → List ℕ) (zone : ZoneValue) where
         cond_both (sends_below nsec.types) _ _ (Holds zone (front ++ (label ∷ above))) (λ _. tt) (λ _. tt)
     next_holds front label above nsec (Some other) inside owner is =
         cond_both (sends_below nsec.types) _ _ (Holds zone (front ++ (label ∷ above))) (λ _. tt)
-        (λ keeps. cond_both other.opt_out _ (Missing above) (Holds zone (front ++ (label ∷ above))) (λ _. tt)
+        (λ keeps. cond_both other.opt_out (Unknown OptOut) (Missing above) (Holds zone (front ++ (label ∷ above)))
+        (λ _. left_out front label above other inside
+        (sent_step zone label above owner.not_sent (λ _. sends_none zone above nsec.types owner.are keeps)) is)
         (missing_next front label above other inside
         (sent_step zone label above owner.not_sent (λ _. sends_none zone above nsec.types owner.are keeps)) owner.there is))
 

@@ -9,6 +9,7 @@ use Rattle.ans_store.specs.Zones.{IsZone, ZoneValue, name_exists, owned_by}
 use Rattle.ans_answer.specs.Outcomes.{encloser, sent_above}
 use Rattle.ans_denial.specs.Chains.{IsOfChain, is_due}
 use Rattle.ans_denial.specs.Nsecs.{Empty, Existence, Missing, NsecValue, Owns, Unknown, closest, covered, covers, existence, said_by, sends_below}
+use Rattle.ans_denial.specs.Soundness.{Remains}
 use Rattle.ans_denial.proofs.Sending.{delegation_alike, nothing_owned, owned_alike, sent_above_alike}
 use Rattle.ans_denial.proofs.Covering.{AreTypesOf, chain_types, encloser_is, exists_below, free, owner_exists, owns_nothing}
 
@@ -31,7 +32,7 @@ pub record IsMissing (zone : ZoneValue) (name closest : List (List ℕ)) : Type 
   pub above : encloser zone name ≡ closest
 
 abbrev pub Holds : ZoneValue → List (List ℕ) → Existence → Type 0
-Holds zone name (Unknown reason) = Unit {0}
+Holds zone name (Unknown reason) = Remains zone name reason
 Holds zone name (Owns types) = IsOwner zone name types
 Holds zone name Empty = IsEmptyName zone name
 Holds zone name (Missing closest) = IsMissing zone name closest

@@ -5,6 +5,7 @@ pub mod Covering
 pub mod Holding
 pub mod Sound
 pub mod Steps
+pub mod Referring
 pub mod Hashed
 pub mod HashSteps
 pub mod HashTests

@@ -172,7 +172,7 @@ module _ (zone : ZoneValue) (ok : IsZone zone) (look : List (List ℕ) → Exist
       → ((closest : List (List ℕ)) → IsMissing zone name closest → Holds zone (wildcard ∷ closest) (look (wildcard ∷ closest)))
       → IsSaid zone name code (concluded look e code)
   unfolding concluded
-  concluded_is (Unknown reason) inside holds wild = tt
+  concluded_is (Unknown reason) inside holds wild = holds
   concluded_is (Owns types) inside holds wild = owner_is zone name types code ok inside holds
   concluded_is Empty inside holds wild = (
     there_is zone name code inside holds.not_sent (kept zone name code (not_delegation zone name holds.owned)) holds.there,

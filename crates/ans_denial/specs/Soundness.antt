@@ -1,7 +1,7 @@
 -- What is proved of a zone by NSEC records of its chain is what the zone says. Each is the clause of a public function, and so proved.
 use Rattle.std.specs.Prelude.{◌≡◌, ℕ, false, List, ◌∷◌, Some}
 use Rattle.std.specs.List.{AllByRecursion}
-use Rattle.dns_names_wire.specs.Words.{ds_code, ns_code, wildcard}
+use Rattle.dns_names_wire.specs.Words.{RecordValue, ds_code, ns_code, wildcard}
 use Rattle.ans_store.specs.Zones.{IsZone, ZoneValue, have_type, owned_by}
 use Rattle.ans_answer.specs.Outcomes.{Exact, Referral, Synthesised, by_wildcard, kind, outcome}
 use Rattle.ans_answer.specs.Outcomes.{NoName as NoSuchName}
@@ -11,6 +11,14 @@ use Rattle.ans_denial.specs.Denials.{denies, proved_encloser}
 use Rattle.ans_denial.specs.Nsecs.{NsecValue}
 use Rattle.ans_denial.specs.declared.denial.Denial.{Denial}
 use Rattle.ans_denial.specs.declared.denial.Denial.TheVariants.{Insecure, NoData, NoName, NoWildcardData, Nothing}
+use Rattle.ans_denial.specs.declared.denial.Reason.{Reason}
+use Rattle.ans_denial.specs.declared.denial.Reason.TheVariants.{OptOut}
+
+-- What remains true if nothing is proved: where delegations may be left out (RFC 5155, section 6), one that the name is sent to has no DS
+-- records.
+abbrev pub Remains : ZoneValue → List (List ℕ) → Reason → Type 0
+Remains zone name OptOut = (code : ℕ) (records : List RecordValue) → outcome zone name code ≡ Referral records → have_type ds_code records ≡ false
+Remains zone name reason = Unit {0}
 
 -- The zone says of a name and a type what the denial says: that there is no such name; that it exists, or a wildcard stands for it,
 -- and there are no records of the type; that it is a delegation without DS records.
@@ -21,7 +29,7 @@ IsSaid zone name code NoWildcardData =
     (wild : List (List ℕ)) × (outcome zone name code ≡ Synthesised (owned_by wild zone.records)) × (kind (owned_by wild zone.records) code ≡ NoRecords)
 IsSaid zone name code Insecure =
     (outcome zone name ns_code ≡ Referral (owned_by name zone.records)) × (have_type ds_code (owned_by name zone.records) ≡ false)
-IsSaid zone name code (Nothing reason) = Unit {0}
+IsSaid zone name code (Nothing reason) = Remains zone name reason
 
 -- Whatever records of a zone's chain are given, what they prove is so.
 abbrev pub DenialsAreSound : Type 0

@@ -18,7 +18,8 @@ pub fn denials_are_sound()
 }
 
 /// The same of the NSEC3 records of a zone's chain, if no name of the zone has the hash of another that is hashed. Where delegations without
-/// DS records may be left out, a name that may be one of them is never found to be missing.
+/// DS records may be left out, a name that may be one of them is never found to be missing; and if the zone refers it to a delegation, that
+/// has no DS records.
 ///
 /// And the answer of a wildcard that the zone has is the one for a name if the records prove that no name nearer exists.
 pub fn hashed_denials_are_sound()
