@@ -1,4 +1,4 @@
-//! What the NSEC records of a zone prove of a name and a type.
+//! What the NSEC or NSEC3 records of a zone prove of a name and a type.
 ghost use Rattle.std.specs.Prelude.{◌≡◌, ◌<◌, List, ℕ, length, map, IfSome};
 ghost use Rattle.std.specs.Option.{option_map};
 ghost use Rattle.ans_denial.specs.Denials.{denied_by, denied_by_types, denied_by_wildcard, denies, is_present, proved_encloser};
@@ -90,7 +90,7 @@ pub fn denial_of(nsecs: &[Nsec<'_>], name: &Name, code: u16, apex: &Name) -> Den
 /// signatures. They are given in any order. Nothing is allocated. At most [`hash_count`](crate::nsec3::hash_count) names are hashed, and
 /// each hash is compared with each record. If it may take more than the caller allows, the records prove nothing.
 ///
-/// [`denials_are_sound`](crate::laws::denials_are_sound) says that the zone is as they prove.
+/// [`hashed_denials_are_sound`](crate::laws::hashed_denials_are_sound) says that the zone is as they prove.
 #[tactic(auto, unfolding(crate::specs::Hashes::denies_by_hashes))]
 pub fn denial_by_hashes(
     nsecs: &[Nsec3<'_>],
