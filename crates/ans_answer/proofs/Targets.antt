@@ -106,6 +106,11 @@ gives_none_longer ls octets rest are is longer =
     let equal : length octets ≡ length (wire ls) = ap length same ∙ ap (λ (x : List (List ℕ)). length (wire x)) (sym second ∙ first) in
     omega (arith, equal, longer))
 
+-- No octets are no name.
+pub nothing_is_none : (octets : List ℕ) (count : ℕ) → length octets < count → name_in (drop count octets) ≡ None
+nothing_is_none octets count h =
+    gives_none (drop count octets) (λ ls are is. omega (arith, ap length is, wire_length ls, length-drop count octets))
+
 -- ---- a wire form is read
 
 pub reads_whole : (back : ReadsBack) (ls : List (List ℕ)) (octets : List ℕ) (reader : Decoder) → AreLabels ls → octets ≡ wire ls

@@ -1,5 +1,5 @@
 -- Outcomes and answers as code has them: with the numbers of records in place of the records, and of names in place of the names.
-use Rattle.std.specs.Prelude.{ℕ, ◌+◌, ◌≤◌, List, [], ◌∷◌, ◌++◌, length, map, slice_index_or, slice_range}
+use Rattle.std.specs.Prelude.{ℕ, ◌+◌, ◌≤◌, List, [], ◌∷◌, ◌++◌, length, map, slice_index_or, slice_range, Option, Some, None}
 use Rattle.std.specs.Option.{option_map, option_to_list}
 use Rattle.dns_names_wire.specs.Words.{NameValue, RecordValue, cname_code, dname_code, soa_code}
 use Rattle.ans_store.specs.declared.lookup.Node.{Node}
@@ -18,6 +18,10 @@ use Rattle.ans_answer.specs.declared.target.Next.TheVariants as nexts
 
 abbrev pub node_records : List RecordValue → Node → List RecordValue
 node_records records node = slice_range records node.start node.end
+
+abbrev pub records_seen : List RecordValue → Option Node → List RecordValue
+records_seen records None = []
+records_seen records (Some node) = node_records records node
 
 abbrev pub outcome_seen : List RecordValue → Found → ZoneOutcome
 outcome_seen records found.Outside = Outside

@@ -6,6 +6,12 @@ pub(crate) const NS: u16 = 2;
 /// CNAME (RFC 1035, section 3.3.1).
 pub(crate) const CNAME: u16 = 5;
 
+/// MX (RFC 1035, section 3.3.9).
+pub(crate) const MX: u16 = 15;
+
+/// SRV (RFC 2782).
+pub(crate) const SRV: u16 = 33;
+
 /// DNAME (RFC 6672, section 2.1).
 pub(crate) const DNAME: u16 = 39;
 

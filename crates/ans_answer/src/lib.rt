@@ -4,6 +4,7 @@
 //! Both are by the list of the zone's records.
 #![tactic(auto)]
 
+pub mod additional;
 pub mod answer;
 mod codes;
 pub mod denial;
