@@ -134,8 +134,14 @@ wire_append front last = ap (λ (os : List ℕ). os ++ 0 ∷ []) (flat_map-appen
 
 front_size : (ls : List (List ℕ)) (k : ℕ) → length (labels_wire (take k ls)) + encoded_size (drop k ls) ≡ encoded_size ls
 front_size ls k =
-    omega (arith, wire_length (drop k ls), wire_length ls, ap (λ (os : List (List ℕ)). length (wire os)) (take-append-drop k ls), ap length (wire_append (take k ls) (drop k ls)),
-    length-append (labels_wire (take k ls)) (wire (drop k ls)))
+    omega (
+      arith,
+      wire_length (drop k ls),
+      wire_length ls,
+      ap (λ (os : List (List ℕ)). length (wire os)) (take-append-drop k ls),
+      ap length (wire_append (take k ls) (drop k ls)),
+      length-append (labels_wire (take k ls)) (wire (drop k ls)),
+    )
 
 each_front : (ls : List (List ℕ)) (k : ℕ) → AllByRecursion IsLabel ls → AllByRecursion IsLabel (take k ls)
 each_front [] zero each = tt
@@ -161,8 +167,15 @@ module _ (ls last target : List (List ℕ)) (k : ℕ) (is : last ≡ drop k ls) 
 
   pub both_size : encoded_size (take k ls ++ target) ≡ encoded_size ls - encoded_size last + encoded_size target
   both_size =
-      omega (arith, front_size ls k, ap encoded_size is, wire_length (take k ls ++ target), wire_length target, ap length (wire_append (take k ls) target),
-      length-append (labels_wire (take k ls)) (wire target))
+      omega (
+        arith,
+        front_size ls k,
+        ap encoded_size is,
+        wire_length (take k ls ++ target),
+        wire_length target,
+        ap length (wire_append (take k ls) target),
+        length-append (labels_wire (take k ls)) (wire target),
+      )
 
   pub both_labels : AreLabels ls → AreLabels target → encoded_size ls - encoded_size last + encoded_size target ≤ max_name → AreLabels (take k ls ++ target)
   both_labels are them fits =

@@ -54,12 +54,7 @@ fn name_after(alloc: Global, octets: &[u8], count: usize) -> Option<Name>
 /// Returns where the addresses of a server are, by the code of their type: what its name owns, or its wildcard. If a referral names the
 /// server, they may be glue.
 #[tactic(auto, unfolding(crate::specs::Additionals::addresses))]
-pub fn addresses_of(
-    zone: &ZoneStore<'_>,
-    is_referral: bool,
-    name: &Name,
-    code: u16,
-) -> Option<Node>
+pub fn addresses_of(zone: &ZoneStore<'_>, is_referral: bool, name: &Name, code: u16) -> Option<Node>
     ensures addresses { records_of_type code (records_seen zone.now.records result) ≡ addresses zone.now is_referral name.now.labels code }
     ensures records { IfSome result (IsOfRecords zone.now.records) }
 {

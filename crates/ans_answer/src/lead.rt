@@ -33,7 +33,9 @@ pub fn lead_of(alloc: Global, zone: &ZoneStore<'_>, name: &Name, code: u16) -> L
     let outcome = outcome_of(zone, name, code);
     match outcome {
         Outcome::Redirect(node) => Lead::Dname(node, redirected(alloc, zone, name, node, DNAME)),
-        Outcome::Exact(node) | Outcome::Synthesised(node) => by_kind(alloc, zone, outcome, node, code),
+        Outcome::Exact(node) | Outcome::Synthesised(node) => by_kind(
+            alloc, zone, outcome, node, code,
+        ),
         Outcome::Outside | Outcome::Referral(_) | Outcome::NoName => Lead::Stays(outcome),
     }
 }

@@ -501,14 +501,6 @@ pub(crate) const ROWS: [(&str, &str, &str); 59] = [
          an lj.a.test. 60 CNAME ns.a.test.\n\
          an ns.a.test. 60 A 192.0.2.53",
     ),
-    (
-        "other.test.",
-        "A",
-        "REFUSED",
-    ),
-    (
-        "test.",
-        "SOA",
-        "REFUSED",
-    ),
+    ("other.test.", "A", "REFUSED"),
+    ("test.", "SOA", "REFUSED"),
 ];

@@ -167,13 +167,17 @@ fn each_question_has_the_sections_that_servers_give_it(rt: HostRuntime) -> Resul
     let zone = ZoneStore::load(alloc, apex, octets.as_slice())?;
     for (name, record_type, wanted) in ROWS {
         let asked = Name::from_text(alloc, name, None)?;
-        let code = RecordType::from_text(record_type).expect(&rt, "a type").code();
+        let code = RecordType::from_text(record_type)
+            .expect(&rt, "a type")
+            .code();
         let answer = answer_of(alloc, &zone, &asked, code)?;
         let lines = lines_of(alloc, &zone, &asked, &answer)?;
         let mut count = 0;
         for line in wanted.split('\n') {
             count += 1;
-            let found = lines.iter().any(|other| other.as_str().eq_ignore_ascii_case(line));
+            let found = lines
+                .iter()
+                .any(|other| other.as_str().eq_ignore_ascii_case(line));
             assert!(rt; found, "{name} {record_type}: {line}");
         }
         assert_eq!(rt; lines.len(), count, "{name} {record_type}");

@@ -15,8 +15,13 @@ kept_is c =
 
 pub overflow_sub-kept : goal.overflow_sub-kept
 overflow_sub-kept c =
-    omega (arith, last_fits c.args.name.now.labels c.last_labels-last.result.labels c.args.target.now.labels (length c.args.name.now.labels - c.args.count)
-    (kept_is (goal.at.overflow_sub-kept c).After-last_labels-last), c.encoded_len.ensures.size, c.encoded_len-2.ensures.size)
+    omega (
+      arith,
+      last_fits c.args.name.now.labels c.last_labels-last.result.labels c.args.target.now.labels (length c.args.name.now.labels - c.args.count)
+          (kept_is (goal.at.overflow_sub-kept c).After-last_labels-last),
+      c.encoded_len.ensures.size,
+      c.encoded_len-2.ensures.size,
+    )
 
 pub returns-then-end-gt-MAX_NAME : goal.returns-then-end-gt-MAX_NAME
 returns-then-end-gt-MAX_NAME c =
