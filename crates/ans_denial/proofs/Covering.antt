@@ -9,7 +9,7 @@ use Rattle.dns_names_wire.specs.Words.{KeysCompare, RecordValue, ZonesBegin, dna
 use Rattle.ans_store.proofs.Names.{in_between, in_if_same, lower_if_same, names_rank, not_before_zone}
 use Rattle.ans_store.specs.Zones.{IsZone, ZoneValue, have_type, name_exists, owned_by}
 use Rattle.ans_answer.specs.Outcomes.{ZoneOutcome, encloser, is_delegation, sent_above, sent_at}
-use Rattle.ans_denial.specs.Chains.{HasNsec, IsOfChain, is_due, is_listed}
+use Rattle.ans_denial.specs.Chains.{HasNsec, IsOfChain, is_due, is_type_listed}
 use Rattle.ans_denial.specs.Nsecs.{NsecValue, closest, covers, is_above_ends, is_of_delegation, lists, sends_below}
 use Rattle.ans_denial.proofs.Covers.{after_owner, before_next, covered_if}
 use Rattle.ans_denial.proofs.Names.{any_more, in_alike, in_last, in_trans, same_back}
@@ -73,7 +73,7 @@ no_others true = refl
 no_others false = refl
 
 pub chain_types : (zone : ZoneValue) (nsec : NsecValue) → IsOfChain zone nsec → AreTypesOf zone nsec.owner nsec.types
-unfolding is_listed
+unfolding is_type_listed
 chain_types zone nsec link = record {
   all = λ code due. link.types code ∙ or_left (is_due zone nsec.owner code) _ due;
   only_ns = link.types ns_code ∙ no_others (is_due zone nsec.owner ns_code);

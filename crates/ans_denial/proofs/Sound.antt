@@ -13,7 +13,7 @@ use Rattle.ans_answer.specs.declared.kind.Kind.TheVariants.{NoData as NoRecords}
 use Rattle.ans_denial.specs.Chains.{is_due}
 use Rattle.ans_denial.specs.Denials.{concluded, denied_by, denied_by_types, denied_by_wildcard, encloser_by, is_present, missing_below}
 use Rattle.ans_denial.specs.Nsecs.{Empty, Existence, Missing, Owns, Unknown, existence, is_of_delegation, lists}
-use Rattle.ans_denial.specs.Soundness.{DenialsAreSound, EnclosersAreSound, IsSaid}
+use Rattle.ans_denial.specs.Soundness.{DenialsAreSound, EnclosersAreSound, ZoneSays}
 use Rattle.ans_denial.specs.declared.denial.Denial.TheVariants.{Insecure, NoData, NoWildcardData}
 use Rattle.ans_denial.proofs.Covering.{AreTypesOf, no_delegation, not_listed}
 use Rattle.ans_denial.proofs.Holding.{Holds, IsMissing, IsOwner, existence_holds}
@@ -111,7 +111,7 @@ unfolding is_sent
 leaves zone name cut = rw cut refl
 
 insecure_is : (zone : ZoneValue) (name : List (List ℕ)) (types : List ℕ) → IsZone zone → is_in zone.apex name ≡ true → IsOwner zone name types
-    → is_of_delegation types ≡ true → lists types ds_code ≡ false → (code : ℕ) → IsSaid zone name code Insecure
+    → is_of_delegation types ≡ true → lists types ds_code ≡ false → (code : ℕ) → ZoneSays zone name code Insecure
 insecure_is zone name types ok inside owner h none code =
     let cut = is_cut zone name types ok owner.are h in (
       outcome_is zone name ns_code inside owner.not_sent ∙ sym (itself_sent zone name ns_code (owned_by name zone.records) (leaves zone name cut) refl),
@@ -129,13 +129,13 @@ ds_not_listed types code cut ds none =
     subst (λ n. lists types n ≡ false) same (or_parts (code == any_code) (lists types code) first).1
 
 owner_is : (zone : ZoneValue) (name : List (List ℕ)) (types : List ℕ) (code : ℕ) → IsZone zone → is_in zone.apex name ≡ true → IsOwner zone name types
-    → IsSaid zone name code (denied_by_types types code)
+    → ZoneSays zone name code (denied_by_types types code)
 unfolding denied_by_types
 owner_is zone name types code ok inside owner =
-    cond_both (is_of_delegation types && not (code == ds_code)) _ _ (IsSaid zone name code) (λ _. tt)
-    (λ ds. cond_both (lists types soa_code && code == ds_code) _ _ (IsSaid zone name code) (λ _. tt)
-    (λ _. cond_both (is_present types code) _ _ (IsSaid zone name code) (λ _. tt)
-    (λ none. cond_both (is_of_delegation types) Insecure NoData (IsSaid zone name code)
+    cond_both (is_of_delegation types && not (code == ds_code)) _ _ (ZoneSays zone name code) (λ _. tt)
+    (λ ds. cond_both (lists types soa_code && code == ds_code) _ _ (ZoneSays zone name code) (λ _. tt)
+    (λ _. cond_both (is_present types code) _ _ (ZoneSays zone name code) (λ _. tt)
+    (λ none. cond_both (is_of_delegation types) Insecure NoData (ZoneSays zone name code)
     (λ cut. insecure_is zone name types ok inside owner cut (ds_not_listed types code cut ds none) code)
     (λ other. let here = no_delegation zone name types owner.are other in (
       there_is zone name code inside owner.not_sent (kept zone name code here) owner.there,
@@ -155,12 +155,12 @@ unfolding by_wildcard
 no_wild zone name wild code is gone = is ∙ rw gone refl
 
 by_wild : (zone : ZoneValue) (name wild : List (List ℕ)) (code : ℕ) (e : Existence) → outcome zone name code ≡ by_wildcard zone wild → Holds zone wild e
-    → IsSaid zone name code (denied_by_wildcard e code)
+    → ZoneSays zone name code (denied_by_wildcard e code)
 unfolding denied_by_wildcard
 by_wild zone name wild code (Unknown reason) is holds = tt
 by_wild zone name wild code (Owns types) is holds =
-    cond_both (is_of_delegation types) _ _ (IsSaid zone name code) (λ _. tt)
-    (λ other. cond_both (is_present types code) _ NoWildcardData (IsSaid zone name code) (λ _. tt)
+    cond_both (is_of_delegation types) _ _ (ZoneSays zone name code) (λ _. tt)
+    (λ other. cond_both (is_present types code) _ NoWildcardData (ZoneSays zone name code) (λ _. tt)
     (λ none. (wild, wild_is zone name wild code is holds.there, kind_none zone wild types code holds.are other none)))
 by_wild zone name wild code Empty is holds = (wild, wild_is zone name wild code is holds.there, owned_kind zone wild code holds.owned)
 by_wild zone name wild code (Missing closest) is holds = no_wild zone name wild code is holds.gone
@@ -170,7 +170,7 @@ by_wild zone name wild code (Missing closest) is holds = no_wild zone name wild 
 module _ (zone : ZoneValue) (ok : IsZone zone) (look : List (List ℕ) → Existence) (name : List (List ℕ)) (code : ℕ) where
   concluded_is : (e : Existence) → is_in zone.apex name ≡ true → Holds zone name e
       → ((closest : List (List ℕ)) → IsMissing zone name closest → Holds zone (wildcard ∷ closest) (look (wildcard ∷ closest)))
-      → IsSaid zone name code (concluded look e code)
+      → ZoneSays zone name code (concluded look e code)
   unfolding concluded
   concluded_is (Unknown reason) inside holds wild = holds
   concluded_is (Owns types) inside holds wild = owner_is zone name types code ok inside holds
@@ -184,10 +184,10 @@ module _ (zone : ZoneValue) (ok : IsZone zone) (look : List (List ℕ) → Exist
   -- What is looked up holds of the name, and of the wildcard if it does not exist: then what is proved is so.
   pub denial_is : Holds zone name (look name)
       → ((closest : List (List ℕ)) → IsMissing zone name closest → Holds zone (wildcard ∷ closest) (look (wildcard ∷ closest)))
-      → IsSaid zone name code (denied_by look name code zone.apex)
+      → ZoneSays zone name code (denied_by look name code zone.apex)
   unfolding denied_by
   denial_is holds wild =
-      cond_both (is_in zone.apex name) (concluded look (look name) code) _ (IsSaid zone name code)
+      cond_both (is_in zone.apex name) (concluded look (look name) code) _ (ZoneSays zone name code)
       (λ inside. concluded_is (look name) inside holds wild) (λ _. tt)
 
   encloser_of : (closest : List (List ℕ)) (e : Existence) → Holds zone name e → missing_below e ≡ Some closest → IsMissing zone name closest

@@ -20,8 +20,8 @@ is_due zone name code =
     have_type code (owned_by name zone.records) && (not (is_delegation zone name) || (code == ns_code || code == ds_code))
 
 -- Such a type is listed, and so are NSEC and RRSIG, for the record itself and for its signature.
-unfoldable pub is_listed : ZoneValue → List (List ℕ) → ℕ → Bool
-is_listed zone name code = is_due zone name code || (code == nsec_code || code == rrsig_code)
+unfoldable pub is_type_listed : ZoneValue → List (List ℕ) → ℕ → Bool
+is_type_listed zone name code = is_due zone name code || (code == nsec_code || code == rrsig_code)
 
 -- The record is that of a name which has one, its next name is the nearest one after it that has one, and after the last one is the
 -- apex.
@@ -30,7 +30,7 @@ pub record IsOfChain (zone : ZoneValue) (nsec : NsecValue) : Type 0 where
   pub next : HasNsec zone nsec.next
   pub nearest : (name : List (List ℕ)) → HasNsec zone name → covers nsec name ≡ false
   pub last : is_lt (labels_cmp nsec.owner nsec.next) ≡ false → is_same nsec.next zone.apex ≡ true
-  pub types : (code : ℕ) → lists nsec.types code ≡ is_listed zone nsec.owner code
+  pub types : (code : ℕ) → lists nsec.types code ≡ is_type_listed zone nsec.owner code
 
 -- The records are the zone's: one for each name that has one, in canonical order.
 pub record IsChain (zone : ZoneValue) (nsecs : List NsecValue) : Type 0 where

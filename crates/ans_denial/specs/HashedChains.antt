@@ -10,7 +10,7 @@ use Rattle.ans_denial.specs.Denials.{denied_by}
 use Rattle.ans_denial.specs.Hashes.{Nsec3Value, covers_hash, expands, hashed_existence}
 use Rattle.ans_denial.specs.Nsecs.{lists}
 use Rattle.ans_denial.specs.Seen.{last_labels}
-use Rattle.ans_denial.specs.Soundness.{IsSaid}
+use Rattle.ans_denial.specs.Soundness.{ZoneSays}
 
 -- A name has an NSEC3 record if it exists in the zone and no name above sends it away. So names without records have one, too.
 pub record HasNsec3 (zone : ZoneValue) (name : List (List ℕ)) : Type 0 where
@@ -51,7 +51,7 @@ abbrev pub HashedDenialsAreSound : Type 0
 HashedDenialsAreSound =
     (hash : List (List ℕ) → List ℕ) (zone : ZoneValue) (nsecs : List Nsec3Value) (name : List (List ℕ)) (code : ℕ) → IsZone zone
     → AllByRecursion (IsOfHashedChain hash zone) nsecs → IsOneToOne hash zone name
-    → IsSaid zone name code (denied_by (hashed_existence hash nsecs zone.apex) name code zone.apex)
+    → ZoneSays zone name code (denied_by (hashed_existence hash nsecs zone.apex) name code zone.apex)
 
 -- The answer of a wildcard that the zone has is the one for the name, if the records say that no name nearer exists.
 abbrev pub ExpansionsAreSound : Type 0

@@ -22,20 +22,20 @@ Remains zone name reason = Unit {0}
 
 -- The zone says of a name and a type what the denial says: that there is no such name; that it exists, or a wildcard stands for it,
 -- and there are no records of the type; that it is a delegation without DS records.
-abbrev pub IsSaid : ZoneValue → List (List ℕ) → ℕ → Denial → Type 0
-IsSaid zone name code NoName = outcome zone name code ≡ NoSuchName
-IsSaid zone name code NoData = (outcome zone name code ≡ Exact (owned_by name zone.records)) × (kind (owned_by name zone.records) code ≡ NoRecords)
-IsSaid zone name code NoWildcardData =
+abbrev pub ZoneSays : ZoneValue → List (List ℕ) → ℕ → Denial → Type 0
+ZoneSays zone name code NoName = outcome zone name code ≡ NoSuchName
+ZoneSays zone name code NoData = (outcome zone name code ≡ Exact (owned_by name zone.records)) × (kind (owned_by name zone.records) code ≡ NoRecords)
+ZoneSays zone name code NoWildcardData =
     (wild : List (List ℕ)) × (outcome zone name code ≡ Synthesised (owned_by wild zone.records)) × (kind (owned_by wild zone.records) code ≡ NoRecords)
-IsSaid zone name code Insecure =
+ZoneSays zone name code Insecure =
     (outcome zone name ns_code ≡ Referral (owned_by name zone.records)) × (have_type ds_code (owned_by name zone.records) ≡ false)
-IsSaid zone name code (Nothing reason) = Remains zone name reason
+ZoneSays zone name code (Nothing reason) = Remains zone name reason
 
 -- Whatever records of a zone's chain are given, what they prove is so.
 abbrev pub DenialsAreSound : Type 0
 DenialsAreSound =
     (zone : ZoneValue) (nsecs : List NsecValue) (name : List (List ℕ)) (code : ℕ) → IsZone zone → AllByRecursion (IsOfChain zone) nsecs
-    → IsSaid zone name code (denies nsecs name code zone.apex)
+    → ZoneSays zone name code (denies nsecs name code zone.apex)
 
 -- A closest encloser that is proved is the one whose wildcard stands for the name, whatever type is asked.
 abbrev pub EnclosersAreSound : Type 0

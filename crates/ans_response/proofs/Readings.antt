@@ -6,7 +6,7 @@ use Rattle.std.specs.Result.{IsOk, IsOkAnd}
 use Rattle.dns_names_wire.specs.Words.{Decoder, FaultAt, NameAt, NameOrFault, NotBoth, OneName, RecordValue, TakesName, record_fields}
 use Rattle.dns_names_wire.specs.declared.error.DecodeError.{DecodeError}
 use Rattle.ans_response.specs.Counted.{AreTargets, IsTarget, Targets}
-use Rattle.ans_response.specs.Laws.{OneReading, TargetsAreRead}
+use Rattle.ans_response.specs.Laws.{OneTarget, TargetsAreRead}
 
 bytes : RecordValue → List ℕ
 bytes r = (record_fields r).reader.bytes
@@ -84,7 +84,7 @@ module _ (some : NameOrFault) (both : NotBoth) (one : OneName) where
   pub targets_are_read : TargetsAreRead
   targets_are_read = (read, record { named = read_named; others = read_others })
 
-  pub one_target : OneReading
+  pub one_target : OneTarget
   one_target target other are same r = read_is target are r ∙ sym (read_is other same r)
 
 -- ---- a name that is read up to the end of the data

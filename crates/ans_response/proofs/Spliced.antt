@@ -7,7 +7,7 @@ use Rattle.std.proofs.lemmas.List.Sums.{sum_by-append, sum_by-cons}
 use Rattle.std.specs.Char.{to_ascii_lowercase}
 use Rattle.std.specs.List.{AllByRecursion, sum_by}
 use Rattle.dns_names_wire.specs.Words.{AreLabels, IsLabel, NameAt, ReadsBack, encoded_size, labels_wire, lower, max_name, put, wire}
-use Rattle.ans_response.specs.Meanings.{is_below, substituted}
+use Rattle.ans_response.specs.Meanings.{is_strictly_below, substituted}
 use Rattle.ans_response.proofs.Zones.{last_lower}
 
 -- ---- sizes
@@ -42,7 +42,7 @@ each_both (l ∷ a) b h g = (h.0, each_both a b h.1 g)
 
 -- ---- a name below an owner
 
-module _ (owner target name : List (List ℕ)) (below : is_below owner name ≡ true) where
+module _ (owner target name : List (List ℕ)) (below : is_strictly_below owner name ≡ true) where
   abbrev pub front : List (List ℕ)
   front = take (length name - length owner) name
 

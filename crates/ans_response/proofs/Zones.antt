@@ -6,7 +6,7 @@ use Rattle.std.specs.Char.{to_ascii_lowercase}
 use Rattle.std.specs.Cmp.{both_ways}
 use Rattle.dns_names_wire.specs.OrderLaws.{name_eq_equiv}
 use Rattle.dns_names_wire.specs.Words.{IsZoneOf, NameValue, is_in, is_same, lower, name_eq, name_eq_parts, name_ties}
-use Rattle.ans_response.specs.Meanings.{is_below}
+use Rattle.ans_response.specs.Meanings.{is_strictly_below}
 
 first_true : (a b : Bool) → (a && b) ≡ true → a ≡ true
 first_true true b h = refl
@@ -44,6 +44,6 @@ pub in_by_test : (b : Bool) (zone name : List (List ℕ)) → (b ≡ true → Is
 in_by_test b zone name test = both_ways b (is_in zone name) (λ yes. in_if_zone zone name (test.0 yes)) (λ yes. test.1 (zone_if_in zone name yes))
 
 -- The last labels of a name that is below another one are those of that one.
-pub last_lower : (above name : List (List ℕ)) → is_below above name ≡ true → lower (drop (length name - length above) name) ≡ lower above
-unfolding is_below is_in
+pub last_lower : (above name : List (List ℕ)) → is_strictly_below above name ≡ true → lower (drop (length name - length above) name) ≡ lower above
+unfolding is_strictly_below is_in
 last_lower above name h = lower_if_same (drop (length name - length above) name) above (first_true _ _ h)

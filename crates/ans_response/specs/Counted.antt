@@ -1,4 +1,4 @@
--- Which records of a response count for a question and the zone whose server was asked, and what is seen of them.
+-- Which records of a response count for a question and the zone whose server was asked, and what is record_seen of them.
 use Rattle.std.specs.Prelude.{◌≡◌, ◌-◌, ◌==◌, ◌&&◌, ℕ, Bool, nat_le, if◌then◌else◌, Option, Some, None, List, length, drop, map}
 use Rattle.std.specs.Int.{w32, from_be_bytes}
 use Rattle.std.specs.List.{filter}
@@ -30,7 +30,7 @@ pub record AreTargets (target : Targets) : Type 0 where
   pub named : (r : RecordValue) (name : List (List ℕ)) → IsTarget r name → target r ≡ Some name
   pub others : (r : RecordValue) → ((name : List (List ℕ)) → ¬ (IsTarget r name)) → target r ≡ None
 
--- ---- what is seen of a record
+-- ---- what is record_seen of a record
 
 -- the fewest octets of the data of SOA: two names of one octet, and five numbers (RFC 1035, section 3.3.13)
 abbrev pub least_soa : ℕ
@@ -42,7 +42,7 @@ minimum_of r =
     let octets = data_octets r in
     if nat_le least_soa (length octets) then Some (from_be_bytes w32 (drop (length octets - 4) octets)) else None
 
--- A record as it is seen: its owner, its type, its time to live, the name that its data are, if they are one, and their last number.
+-- A record as it is record_seen: its owner, its type, its time to live, the name that its data are, if they are one, and their last number.
 pub record Seen : Type 0 where
   pub owner : List (List ℕ)
   pub code : ℕ
@@ -50,9 +50,9 @@ pub record Seen : Type 0 where
   pub target : Option (List (List ℕ))
   pub minimum : Option ℕ
 
-abbrev pub seen : Targets → RecordValue → Seen
-seen target r = record { owner = r.owner; code = type_code r.record_type; ttl = r.ttl; target = target r; minimum = minimum_of r }
+abbrev pub record_seen : Targets → RecordValue → Seen
+record_seen target r = record { owner = r.owner; code = type_code r.record_type; ttl = r.ttl; target = target r; minimum = minimum_of r }
 
--- the records of a section that count, as they are seen
-unfoldable pub counted : Targets → AskedValue → List RecordValue → List Seen
-counted target asked records = map (seen target) (filter (counts asked) records)
+-- the records of a section that count, as they are record_seen
+unfoldable pub counted_records : Targets → AskedValue → List RecordValue → List Seen
+counted_records target asked records = map (record_seen target) (filter (counts asked) records)

@@ -4,7 +4,7 @@ use Rattle.std.specs.Prelude.{◌==◌, ◌&&◌, ◌||◌, ◌++◌, ◌+◌, �
 use Rattle.dns_names_wire.specs.Words.{MessageValue, QueryValue, RecordValue, any_code, class_code, cname_code, dname_code, encoded_size, is_in, is_same, max_name, ns_code, opts_in, response_code, response_of_code, soa_code, type_code}
 use Rattle.dns_names_wire.specs.declared.message.MessageType.{MessageType}
 use Rattle.dns_names_wire.specs.declared.message.MessageType.TheVariants.{Query, Response}
-use Rattle.ans_response.specs.Counted.{AskedValue, Seen, Targets, counted}
+use Rattle.ans_response.specs.Counted.{AskedValue, Seen, Targets, counted_records}
 use Rattle.ans_response.specs.declared.reason.Reason.{Reason}
 use Rattle.ans_response.specs.declared.reason.Reason.TheVariants as reason
 use Rattle.ans_response.specs.declared.sought.Sought.{Sought}
@@ -35,26 +35,26 @@ pub data Meant : Type 0 where
 -- ---- records that are sought
 
 -- The name is below this one, and not the same.
-unfoldable pub is_below : List (List ℕ) → List (List ℕ) → Bool
-is_below above name = is_in above name && nat_lt (length above) (length name)
+unfoldable pub is_strictly_below : List (List ℕ) → List (List ℕ) → Bool
+is_strictly_below above name = is_in above name && nat_lt (length above) (length name)
 
 -- The type is asked for: it is the one, or all are asked for (RFC 1035, section 3.2.3).
-abbrev pub is_wanted : ℕ → ℕ → Bool
-is_wanted asked code = asked == any_code || code == asked
+abbrev pub asks_for : ℕ → ℕ → Bool
+asks_for asked code = asked == any_code || code == asked
 
 -- A record with this owner and type is sought at a name: data that are asked for; its CNAME record; a DNAME record of a name above it
 -- (RFC 6672, section 2.3); the SOA record of a zone that it is in (RFC 2308, section 3); the NS records of a delegation that it is at or
 -- below (RFC 1034, section 4.2.1).
-unfoldable pub is_sought : AskedValue → List (List ℕ) → Sought → List (List ℕ) → ℕ → Bool
-is_sought asked name sought.Data owner code = is_wanted asked.code code && is_same owner name
-is_sought asked name sought.Alias owner code = code == cname_code && is_same owner name
-is_sought asked name sought.AliasAbove owner code = code == dname_code && is_below owner name
-is_sought asked name sought.Start owner code = code == soa_code && is_in owner name
-is_sought asked name sought.Delegation owner code = code == ns_code && (is_below asked.zone owner && is_in owner name)
+unfoldable pub is_sought_at : AskedValue → List (List ℕ) → Sought → List (List ℕ) → ℕ → Bool
+is_sought_at asked name sought.Data owner code = asks_for asked.code code && is_same owner name
+is_sought_at asked name sought.Alias owner code = code == cname_code && is_same owner name
+is_sought_at asked name sought.AliasAbove owner code = code == dname_code && is_strictly_below owner name
+is_sought_at asked name sought.Start owner code = code == soa_code && is_in owner name
+is_sought_at asked name sought.Delegation owner code = code == ns_code && (is_strictly_below asked.zone owner && is_in owner name)
 
 -- the first of the records that is sought there
 unfoldable pub first : AskedValue → List (List ℕ) → Sought → List Seen → Option Seen
-first asked name what records = find (λ s. is_sought asked name what s.owner s.code) records
+first asked name what records = find (λ s. is_sought_at asked name what s.owner s.code) records
 
 -- ---- aliases
 
@@ -133,33 +133,33 @@ by_negative asked heard name (Some said) = NoData name (Some said)
 by_negative asked heard name None = without_soa asked heard name
 
 -- what is said of a name without data, and that is no alias
-unfoldable pub at_end : AskedValue → Heard → List (List ℕ) → Meant
-at_end asked heard name =
+unfoldable pub at_last_name : AskedValue → Heard → List (List ℕ) → Meant
+at_last_name asked heard name =
     let said = negative asked heard.authorities name in if heard.no_name then NoName name said else by_negative asked heard name said
 
 -- ---- from name to name
 
 -- A response means something by a name, or its meaning is that by another name.
-pub data Step : Type 0 where
-  Means : Meant → Step
-  On : List (List ℕ) → Step
+pub data NameStep : Type 0 where
+  Means : Meant → NameStep
+  On : List (List ℕ) → NameStep
 
 abbrev pub has_data : AskedValue → List Seen → List (List ℕ) → Bool
 has_data asked answers name = is_some (first asked name sought.Data answers)
 
 -- Only names of the zone are followed.
-abbrev pub on_or_out : AskedValue → List (List ℕ) → Step
+abbrev pub on_or_out : AskedValue → List (List ℕ) → NameStep
 on_or_out asked next = if is_in asked.zone next then On next else Means (Alias next)
 
-abbrev pub by_next : AskedValue → Heard → List (List ℕ) → Option (List (List ℕ)) → Step
-by_next asked heard name None = Means (at_end asked heard name)
+abbrev pub by_next : AskedValue → Heard → List (List ℕ) → Option (List (List ℕ)) → NameStep
+by_next asked heard name None = Means (at_last_name asked heard name)
 by_next asked heard name (Some next) = on_or_out asked next
 
-abbrev pub by_alias : AskedValue → Heard → List (List ℕ) → Result (Option (List (List ℕ))) Reason → Step
+abbrev pub by_alias : AskedValue → Heard → List (List ℕ) → Result (Option (List (List ℕ))) Reason → NameStep
 by_alias asked heard name (Err why) = Means (NoAnswer why)
 by_alias asked heard name (Ok next) = if has_data asked heard.answers name then Means (Data name) else by_next asked heard name next
 
-unfoldable pub step : AskedValue → Heard → List (List ℕ) → Step
+unfoldable pub step : AskedValue → Heard → List (List ℕ) → NameStep
 step asked heard name = by_alias asked heard name (next_name asked heard.answers name)
 
 -- the most aliases that are followed: others, and a loop of them, make no answer (RFC 1034, section 3.6.2)
@@ -174,13 +174,13 @@ meant_by (suc left) asked heard name = elim (step asked heard name) [ Means mean
 -- ---- a response to a question
 
 -- the high bits of the response code (RFC 6891, section 6.1.3)
-abbrev pub high_bits : List RecordValue → ℕ
-high_bits [] = 0
-high_bits (opt ∷ others) = opt.ttl / 2 ^ 24
+abbrev pub high_code_bits : List RecordValue → ℕ
+high_code_bits [] = 0
+high_code_bits (opt ∷ others) = opt.ttl / 2 ^ 24
 
 -- the response code
-unfoldable pub code_of : MessageValue → ℕ
-code_of m = response_code m.header.metadata.response_code % 16 + high_bits (opts_in m.additionals) * 16
+unfoldable pub whole_code : MessageValue → ℕ
+whole_code m = response_code m.header.metadata.response_code % 16 + high_code_bits (opts_in m.additionals) * 16
 
 -- NOERROR and NXDOMAIN (RFC 1035, section 4.1.1): all others are errors
 abbrev pub no_error_code : ℕ
@@ -189,14 +189,14 @@ no_error_code = 0
 abbrev pub no_name_code : ℕ
 no_name_code = 3
 
-abbrev pub is_error : ℕ → Bool
-is_error code = not (code == no_error_code || code == no_name_code)
+abbrev pub is_error_code : ℕ → Bool
+is_error_code code = not (code == no_error_code || code == no_name_code)
 
 abbrev pub failed : ℕ → Reason
 failed code = reason.Failed (response_of_code code)
 
 abbrev pub without_question : ℕ → Reason
-without_question response = if is_error response then failed response else reason.OtherQuestion
+without_question response = if is_error_code response then failed response else reason.OtherQuestion
 
 abbrev pub asks : List (List ℕ) → ℕ → QueryValue → Bool
 asks name code q = is_same q.name name && type_code q.query_type == code
@@ -215,23 +215,23 @@ is_query Response = false
 abbrev pub by_class : ℕ → Bool → List (List ℕ) → ℕ → List (List ℕ) → Result ℕ Reason → Result AskedValue Reason
 by_class response truncated name code zone (Err why) = Err why
 by_class response truncated name code zone (Ok class) =
-    if is_error response then Err (failed response)
+    if is_error_code response then Err (failed response)
     else if truncated then Err reason.Truncated
     else if is_in zone name then Ok (record { name = name; code = code; class = class; zone = zone })
     else Err reason.OtherZone
 
 -- what a message is a response to, or why it is no answer
-unfoldable pub checked : MessageValue → List (List ℕ) → ℕ → List (List ℕ) → Result AskedValue Reason
-checked m name code zone =
+unfoldable pub asked_by : MessageValue → List (List ℕ) → ℕ → List (List ℕ) → Result AskedValue Reason
+asked_by m name code zone =
     if is_query m.header.metadata.message_type then Err reason.NotAResponse
-    else by_class (code_of m) m.header.metadata.truncation name code zone (class_asked (code_of m) name code m.queries)
+    else by_class (whole_code m) m.header.metadata.truncation name code zone (class_asked (whole_code m) name code m.queries)
 
 unfoldable pub heard_of : Targets → AskedValue → MessageValue → Heard
 heard_of target asked m = record {
-  answers = counted target asked m.answers;
-  authorities = counted target asked m.authorities;
+  answers = counted_records target asked m.answers;
+  authorities = counted_records target asked m.authorities;
   authoritative = m.header.metadata.authoritative;
-  no_name = code_of m == no_name_code;
+  no_name = whole_code m == no_name_code;
 }
 
 abbrev pub by_checked : Targets → MessageValue → Result AskedValue Reason → Meant
@@ -240,4 +240,4 @@ by_checked target m (Ok asked) = meant_by (max_aliases + 1) asked (heard_of targ
 
 -- what a message means to who asked for this name and type, of a server of this zone
 unfoldable pub meaning : Targets → MessageValue → List (List ℕ) → ℕ → List (List ℕ) → Meant
-meaning target m name code zone = by_checked target m (checked m name code zone)
+meaning target m name code zone = by_checked target m (asked_by m name code zone)

@@ -2,9 +2,9 @@
 ghost use Rattle.std.specs.Prelude.{◌≡◌, ◌+◌, ◌<◌, ◌≤◌, ◌++◌, true, false, List, ℕ, length, take, drop, IsTrue};
 ghost use Rattle.std.specs.Option.{option_map};
 ghost use Rattle.dns_names_wire.specs.Words.{AreLabels, NameAt, encoded_size, put, wire};
-ghost use Rattle.ans_response.specs.Counted.{AreTargets, Targets, counted, seen};
-ghost use Rattle.ans_response.specs.Meanings.{agrees, by_cname, by_made, is_below, made_name, next_name, substituted};
-ghost use Rattle.ans_response.specs.Seen.{next_seen};
+ghost use Rattle.ans_response.specs.Counted.{AreTargets, Targets, counted_records, record_seen};
+ghost use Rattle.ans_response.specs.Meanings.{agrees, by_cname, by_made, is_strictly_below, made_name, next_name, substituted};
+ghost use Rattle.ans_response.specs.Seen.{alias_seen};
 
 use crate::asked::Asked;
 use crate::names::{copy_of, is_same};
@@ -28,7 +28,7 @@ pub(crate) fn next_name(
     name: &Name,
 ) -> Result<Option<Name>, Reason>
     ensures { (target : Targets) → AreTargets target
-        → next_seen result ≡ next_name asked.now (counted target asked.now message.now.answers) name.now.labels }
+        → alias_seen result ≡ next_name asked.now (counted_records target asked.now message.now.answers) name.now.labels }
 {
     let cname = first_sought(message.answers(), asked, name, Sought::Alias);
     let dname = first_sought(message.answers(), asked, name, Sought::AliasAbove);
@@ -40,7 +40,7 @@ pub(crate) fn next_name(
 
 /// Returns the name that a CNAME record leads to, if it is there.
 fn by_cname(name: &Name, cname: &Option<RecordRef<'_>>) -> Result<Option<Name>, Reason>
-    ensures { (target : Targets) → AreTargets target → next_seen result ≡ by_cname (option_map (seen target) cname.now) }
+    ensures { (target : Targets) → AreTargets target → alias_seen result ≡ by_cname (option_map (record_seen target) cname.now) }
 {
     let Some(cname) = cname else {
         return Ok(None);
@@ -57,9 +57,9 @@ fn by_dname(
     dname: &RecordRef<'_>,
     cname: &Option<RecordRef<'_>>,
 ) -> Result<Option<Name>, Reason>
-    requires { is_below dname.now.owner name.now.labels ≡ true }
+    requires { is_strictly_below dname.now.owner name.now.labels ≡ true }
     ensures { (target : Targets) → AreTargets target
-        → next_seen result ≡ by_made (option_map (seen target) cname.now) (made_name name.now.labels (seen target dname.now)) }
+        → alias_seen result ≡ by_made (option_map (record_seen target) cname.now) (made_name name.now.labels (record_seen target dname.now)) }
 {
     let Some(made) = made_name(name, dname) else {
         return Err(Reason::NoTarget);
@@ -72,7 +72,7 @@ fn by_dname(
 
 /// Returns `true` if there is no CNAME record, or one that leads to a name.
 fn agrees(cname: &Option<RecordRef<'_>>, made: &Name) -> bool
-    ensures { (target : Targets) → AreTargets target → result ≡ agrees (option_map (seen target) cname.now) made.now.labels }
+    ensures { (target : Targets) → AreTargets target → result ≡ agrees (option_map (record_seen target) cname.now) made.now.labels }
 {
     let Some(cname) = cname else {
         return true;
@@ -97,9 +97,9 @@ fn target_of<'m>(record: &RecordRef<'m>) -> Option<NameRef<'m>>
 /// Returns the name that DNAME makes of one below its owner, or `None` if its data are no name or that name is too long.
 #[tactic(auto, unfolding(crate::specs::Meanings::made_name))]
 fn made_name(name: &Name, dname: &RecordRef<'_>) -> Option<Name>
-    requires { is_below dname.now.owner name.now.labels ≡ true }
+    requires { is_strictly_below dname.now.owner name.now.labels ≡ true }
     ensures { (target : Targets) → AreTargets target
-        → option_map (λ made. made.labels) result ≡ made_name name.now.labels (seen target dname.now) }
+        → option_map (λ made. made.labels) result ≡ made_name name.now.labels (record_seen target dname.now) }
 {
     let target = target_of(dname)?;
     substituted(dname.owner(), &target, name)
@@ -108,7 +108,7 @@ fn made_name(name: &Name, dname: &RecordRef<'_>) -> Option<Name>
 /// Returns a name with a target in place of its last labels, which are those of the owner (RFC 6672, section 2.2). Returns `None` if it
 /// is too long.
 fn substituted(owner: &NameRef<'_>, target: &NameRef<'_>, name: &Name) -> Option<Name>
-    requires { is_below owner.now name.now.labels ≡ true }
+    requires { is_strictly_below owner.now name.now.labels ≡ true }
     ensures { option_map (λ made. made.labels) result ≡ substituted owner.now target.now name.now.labels }
 {
     laws::reads_back();
@@ -123,7 +123,7 @@ fn substituted(owner: &NameRef<'_>, target: &NameRef<'_>, name: &Name) -> Option
 
 /// Returns the number of octets of a name before its last labels, which are those of an owner.
 fn kept_octets(owner: &NameRef<'_>, name: &Name) -> usize
-    requires { is_below owner.now name.now.labels ≡ true }
+    requires { is_strictly_below owner.now name.now.labels ≡ true }
     ensures kept { result + encoded_size owner.now ≡ encoded_size name.now.labels }
     ensures labels { AreLabels name.now.labels }
 {

@@ -2,7 +2,7 @@
 ghost use Rattle.std.specs.Prelude.{◌≡◌, Ok};
 ghost use Rattle.dns_names_wire.specs.Words.{is_opt, opts_in};
 ghost use Rattle.ans_response.specs.Counted.{counts};
-ghost use Rattle.ans_response.specs.Meanings.{asks, by_class, checked, class_asked, code_of, failed, high_bits, is_error, is_query, without_question};
+ghost use Rattle.ans_response.specs.Meanings.{asks, by_class, asked_by, class_asked, whole_code, failed, high_code_bits, is_error_code, is_query, without_question};
 
 use crate::names::{is_in, is_same};
 use crate::reason::Reason;
@@ -39,14 +39,14 @@ impl<'a> Asked<'a> {
     ///
     /// It fails with `NotAResponse`, `OtherQuestion`, `Failed`, `Truncated` or `OtherZone`, the first of these that is so. But a
     /// message without a question fails with `Failed` if it reports an error.
-    #[tactic(auto, unfolding(crate::specs::Meanings::checked))]
+    #[tactic(auto, unfolding(crate::specs::Meanings::asked_by))]
     pub fn of(
         message: &MessageRef<'_>,
         name: &'a Name,
         code: u16,
         zone: &'a Name,
     ) -> Result<Self, Reason>
-        ensures { result ≡ checked message.now name.now.labels code zone.now.labels }
+        ensures { result ≡ asked_by message.now name.now.labels code zone.now.labels }
     {
         let metadata = &message.header().metadata;
         if is_query(metadata.message_type) {
@@ -128,9 +128,9 @@ impl<'a> Asked<'a> {
 }
 
 /// Returns the response code, with the high bits of EDNS.
-#[tactic(auto, unfolding(crate::specs::Meanings::code_of))]
+#[tactic(auto, unfolding(crate::specs::Meanings::whole_code))]
 pub(crate) fn code_of(message: &MessageRef<'_>) -> u16
-    ensures { result ≡ code_of message.now }
+    ensures { result ≡ whole_code message.now }
 {
     let low = message.header().metadata.response_code.code() % 16;
     low + u16::from(high_bits(message.additionals())) * 16
@@ -138,7 +138,7 @@ pub(crate) fn code_of(message: &MessageRef<'_>) -> u16
 
 /// Returns the high bits of the response code, which the first `OPT` record has (RFC 6891, section 6.1.3).
 fn high_bits(mut records: Records<'_>) -> u8
-    ensures { result ≡ high_bits (opts_in records.entry) }
+    ensures { result ≡ high_code_bits (opts_in records.entry) }
 {
     'records: loop {
         let Some(record) = records.next() else {
@@ -166,7 +166,7 @@ fn is_query(message_type: MessageType) -> bool
 
 /// Returns `true` for the code of an error.
 fn is_error(code: u16) -> bool
-    ensures { result ≡ is_error code }
+    ensures { result ≡ is_error_code code }
 {
     !(code == NO_ERROR || code == NO_NAME)
 }

@@ -1,7 +1,7 @@
 //! What follows from the definition of meanings, for callers' proofs.
 //!
 //! The functions do nothing. Each is there for its clauses.
-ghost use Rattle.ans_response.specs.Laws.{DataAreThere, MissingNamesHaveNoData, NoDataAreThere, OneReading, OthersChangeNothing, ReferralsLeadDown, TargetsAreRead, ZonesDenyTheirNames};
+ghost use Rattle.ans_response.specs.Laws.{DataAreThere, MissingNamesHaveNoData, NoDataAreThere, OneTarget, OthersChangeNothing, ReferralsLeadDown, TargetsAreRead, ZonesDenyTheirNames};
 
 use dns_names_wire::name::laws as names;
 
@@ -9,7 +9,7 @@ use dns_names_wire::name::laws as names;
 /// message one meaning.
 pub fn one_target()
     ensures some { TargetsAreRead }
-    ensures one { OneReading }
+    ensures one { OneTarget }
 {
     names::one_reading();
 }

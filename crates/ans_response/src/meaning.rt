@@ -1,8 +1,8 @@
 //! What a response means.
 ghost use Rattle.std.specs.Prelude.{◌≡◌, ◌+◌, min};
-ghost use Rattle.ans_response.specs.Counted.{AreTargets, Targets, counted, minimum_of, seen};
+ghost use Rattle.ans_response.specs.Counted.{AreTargets, Targets, counted_records, minimum_of, record_seen};
 ghost use Rattle.std.specs.Option.{option_map};
-ghost use Rattle.ans_response.specs.Meanings.{at_end, by_delegation, has_data, heard_of, max_aliases, meaning, meant_by, negative, on_or_out, step, unsaid, without_soa};
+ghost use Rattle.ans_response.specs.Meanings.{at_last_name, by_delegation, has_data, heard_of, max_aliases, meaning, meant_by, negative, on_or_out, step, unsaid, without_soa};
 ghost use Rattle.ans_response.specs.Seen.{meaning_seen, negative_seen, step_seen};
 
 use crate::aliases::next_name;
@@ -118,15 +118,15 @@ fn on_or_out<'m>(asked: &Asked<'_>, next: Name) -> Turn<'m>
 
 /// Returns `true` if there are records of the type asked for at a name.
 fn has_data(message: &MessageRef<'_>, asked: &Asked<'_>, name: &Name) -> bool
-    ensures { (target : Targets) → result ≡ has_data asked.now (counted target asked.now message.now.answers) name.now.labels }
+    ensures { (target : Targets) → result ≡ has_data asked.now (counted_records target asked.now message.now.answers) name.now.labels }
 {
     first_sought(message.answers(), asked, name, Sought::Data).is_some()
 }
 
 /// Returns what is said of a name without data, and that is no alias.
-#[tactic(auto, unfolding(crate::specs::Meanings::at_end, crate::specs::Meanings::heard_of))]
+#[tactic(auto, unfolding(crate::specs::Meanings::at_last_name, crate::specs::Meanings::heard_of))]
 fn at_end<'m>(message: &MessageRef<'m>, asked: &Asked<'_>, name: &Name) -> Meaning<'m>
-    ensures { (target : Targets) → meaning_seen result ≡ at_end asked.now (heard_of target asked.now message.now) name.now.labels }
+    ensures { (target : Targets) → meaning_seen result ≡ at_last_name asked.now (heard_of target asked.now message.now) name.now.labels }
 {
     let said = negative_at(message, asked, name);
     if code_of(message) == NO_NAME {
@@ -140,7 +140,7 @@ fn at_end<'m>(message: &MessageRef<'m>, asked: &Asked<'_>, name: &Name) -> Meani
 
 /// Returns the zone that says that there is nothing at a name.
 fn negative_at<'m>(message: &MessageRef<'m>, asked: &Asked<'_>, name: &Name) -> Option<Negative<'m>>
-    ensures { (target : Targets) → negative_seen result ≡ negative asked.now (counted target asked.now message.now.authorities) name.now.labels }
+    ensures { (target : Targets) → negative_seen result ≡ negative asked.now (counted_records target asked.now message.now.authorities) name.now.labels }
 {
     let Some(soa) = first_sought(message.authorities(), asked, name, Sought::Start) else {
         return None;
@@ -190,7 +190,7 @@ fn by_delegation<'m>(
     name: &Name,
     ns: Option<RecordRef<'m>>,
 ) -> Meaning<'m>
-    ensures { (target : Targets) → meaning_seen result ≡ by_delegation aliased authoritative name.now.labels (option_map (seen target) ns.entry) }
+    ensures { (target : Targets) → meaning_seen result ≡ by_delegation aliased authoritative name.now.labels (option_map (record_seen target) ns.entry) }
 {
     let Some(ns) = ns else {
         return unsaid(aliased, authoritative, name);

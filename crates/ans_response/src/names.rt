@@ -1,7 +1,7 @@
 //! Names of a message beside names that were asked.
 ghost use Rattle.std.specs.Prelude.{◌≡◌, true};
 ghost use Rattle.dns_names_wire.specs.Words.{is_in, is_same};
-ghost use Rattle.ans_response.specs.Meanings.{is_below};
+ghost use Rattle.ans_response.specs.Meanings.{is_strictly_below};
 
 use dns_names_wire::{Name, NameRef};
 
@@ -28,17 +28,17 @@ pub(crate) fn is_within(zone: &NameRef<'_>, name: &Name) -> bool
 }
 
 /// Returns `true` if a name is below another one.
-#[tactic(auto, unfolding(crate::specs::Meanings::is_below))]
+#[tactic(auto, unfolding(crate::specs::Meanings::is_strictly_below))]
 pub(crate) fn is_below(above: &Name, name: &NameRef<'_>) -> bool
-    ensures { result ≡ is_below above.now.labels name.now }
+    ensures { result ≡ is_strictly_below above.now.labels name.now }
 {
     is_in(above, name) && above.as_name_ref().num_labels() < name.num_labels()
 }
 
 /// Returns `true` if a name is below another one, which is in a message.
-#[tactic(auto, unfolding(crate::specs::Meanings::is_below))]
+#[tactic(auto, unfolding(crate::specs::Meanings::is_strictly_below))]
 pub(crate) fn is_above(above: &NameRef<'_>, name: &Name) -> bool
-    ensures { result ≡ is_below above.now name.now.labels }
+    ensures { result ≡ is_strictly_below above.now name.now.labels }
 {
     is_within(above, name) && above.num_labels() < name.as_name_ref().num_labels()
 }

@@ -2,8 +2,8 @@
 ghost use Rattle.std.specs.Prelude.{◌≡◌, ◌∷◌, ◌&&◌, ◌==◌, true, [], IfSome, MatchOption};
 ghost use Rattle.std.specs.Option.{option_map};
 ghost use Rattle.dns_names_wire.specs.Words.{type_code};
-ghost use Rattle.ans_response.specs.Counted.{Targets, counted, counts, seen};
-ghost use Rattle.ans_response.specs.Meanings.{first, is_sought, is_wanted};
+ghost use Rattle.ans_response.specs.Counted.{Targets, counted_records, counts, record_seen};
+ghost use Rattle.ans_response.specs.Meanings.{first, is_sought_at, asks_for};
 ghost use Rattle.ans_response.specs.Seen.{sought_in};
 
 use crate::asked::Asked;
@@ -64,24 +64,24 @@ pub(crate) fn first_sought<'m>(
     name: &Name,
     sought: Sought,
 ) -> Option<RecordRef<'m>>
-    ensures first { (target : Targets) → option_map (seen target) result ≡ first asked.now name.now.labels sought (counted target asked.now records.entry) }
-    ensures sought { IfSome result (λ r. is_sought asked.now name.now.labels sought r.owner (type_code r.record_type) ≡ true) }
+    ensures first { (target : Targets) → option_map (record_seen target) result ≡ first asked.now name.now.labels sought (counted_records target asked.now records.entry) }
+    ensures sought { IfSome result (λ r. is_sought_at asked.now name.now.labels sought r.owner (type_code r.record_type) ≡ true) }
 {
     next_sought(&mut records, asked, name, sought)
 }
 
 /// Returns `true` if a record counts and is sought at a name.
 fn is_found(record: &RecordRef<'_>, asked: &Asked<'_>, name: &Name, sought: Sought) -> bool
-    ensures { result ≡ (is_sought asked.now name.now.labels sought record.now.owner (type_code record.now.record_type) && counts asked.now record.now) }
+    ensures { result ≡ (is_sought_at asked.now name.now.labels sought record.now.owner (type_code record.now.record_type) && counts asked.now record.now) }
 {
     let code = record.record_type().code();
     is_sought(asked, name, sought, record.owner(), code) && asked.counts(record)
 }
 
 /// Returns `true` if a record with this owner and type is sought at a name.
-#[tactic(auto, unfolding(crate::specs::Meanings::is_sought))]
+#[tactic(auto, unfolding(crate::specs::Meanings::is_sought_at))]
 fn is_sought(asked: &Asked<'_>, name: &Name, sought: Sought, owner: &NameRef<'_>, code: u16) -> bool
-    ensures { result ≡ is_sought asked.now name.now.labels sought owner.now code }
+    ensures { result ≡ is_sought_at asked.now name.now.labels sought owner.now code }
 {
     match sought {
         Sought::Data => is_wanted(asked.code(), code) && is_same(owner, name),
@@ -96,7 +96,7 @@ fn is_sought(asked: &Asked<'_>, name: &Name, sought: Sought, owner: &NameRef<'_>
 
 /// Returns `true` if a type is asked for.
 fn is_wanted(asked: u16, code: u16) -> bool
-    ensures { result ≡ is_wanted asked code }
+    ensures { result ≡ asks_for asked code }
 {
     asked == ANY || code == asked
 }

@@ -1,5 +1,5 @@
 use Rattle.std.proofs.Common.{None, ap}
-use Rattle.ans_response.specs.Counted.{seen}
+use Rattle.ans_response.specs.Counted.{record_seen}
 use Rattle.ans_response.specs.Meanings.{negative_of}
 use Rattle.ans_response.proofs.Chains.{negative_is, negative_none, negative_some}
 use Rattle.ans_response.proofs.meaning.negative_at.Goals as goal
@@ -10,11 +10,11 @@ returns-in_default c target =
 
 pub returns-in_default-minimum_of : goal.returns-in_default-minimum_of
 returns-in_default-minimum_of c target =
-    negative_some c.args.asked.now c.args.name.now.labels target c.args.message.now.authorities c.authorities.result c.authorities.ensures (seen target c.in-Some.soa) None
-    (c.in-Some.ensures.first target) (ap (negative_of (seen target c.in-Some.soa)) c.in_default-minimum_of.ensures)
+    negative_some c.args.asked.now c.args.name.now.labels target c.args.message.now.authorities c.authorities.result c.authorities.ensures (record_seen target c.in-Some.soa) None
+    (c.in-Some.ensures.first target) (ap (negative_of (record_seen target c.in-Some.soa)) c.in_default-minimum_of.ensures)
 
 pub returns : goal.returns
 returns c target =
-    negative_some c.args.asked.now c.args.name.now.labels target c.args.message.now.authorities c.authorities.result c.authorities.ensures (seen target c.in-Some.soa) _
+    negative_some c.args.asked.now c.args.name.now.labels target c.args.message.now.authorities c.authorities.result c.authorities.ensures (record_seen target c.in-Some.soa) _
     (c.in-Some.ensures.first target)
-    (negative_is (seen target c.in-Some.soa) c.in-Some-minimum_of.minimum c.smaller_ttl-ttl.result c.smaller_ttl-ttl.ensures c.in-Some-minimum_of.ensures)
+    (negative_is (record_seen target c.in-Some.soa) c.in-Some-minimum_of.minimum c.smaller_ttl-ttl.result c.smaller_ttl-ttl.ensures c.in-Some-minimum_of.ensures)
