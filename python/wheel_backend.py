@@ -25,7 +25,6 @@ NAME = "dns_names_wire"
 CARGO = (HERE.parent / "rust/Cargo.toml").read_text()
 VERSION = re.search(r'^version = "(.+)"$', CARGO, re.M)[1]
 AUTHORS = re.search(r'^authors = \["(.+)"\]$', CARGO, re.M)[1]
-PLACE = re.search(r'^repository = "(.+)"$', CARGO, re.M)[1]
 CLASSIFIERS = [
     "Development Status :: 4 - Beta",
     "Intended Audience :: Developers",
@@ -44,10 +43,8 @@ METADATA = f"""Metadata-Version: 2.1
 Name: dns-names-wire
 Version: {VERSION}
 Summary: Names, records and messages of DNS read and written, and master files read, by a proved library
-Home-page: {PLACE}
 Author: {AUTHORS}
 License: MIT OR Apache-2.0
-Project-URL: Source, {PLACE}
 Keywords: dns,domain,name,verified,wire
 Platform: Linux
 {"".join(f"Classifier: {classifier}" + chr(10) for classifier in CLASSIFIERS)}Requires-Python: >=3.9
