@@ -711,7 +711,7 @@ static void lacks_memory(void)
     EXPECT(dnw_zone_next(BYTES(""), false, &zone, buffer, sizeof buffer, &entry) == DNW_DONE && entry.kind == DNW_ZONE_END);
     static uint8_t room[DNW_ZONE_OCTETS_SIZE];
     struct dnw_zone_row row = {.len = 99};
-    struct dnw_zone_read got;
+    struct dnw_rows_read got;
     EXPECT(dnw_zone_read(BYTES("\n$TTL 5\nb A 192.0.2.1"), false, &zone, &row, 1, room, sizeof room, &got) == DNW_DONE);
     EXPECT(got.next == DNW_ZONE_ERROR && got.used == 8 && got.row_count == 0 && row.len == 99 && zone.default_ttl == 5 && zone.owner_len == 0);
     EXPECT(dnw_name_append(BYTES("\001a\000"), BYTES("\000"), buffer, sizeof buffer, &len) == DNW_DONE && len == 3);

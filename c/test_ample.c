@@ -531,7 +531,7 @@ static void reads_rows(size_t size)
     static const char *const records[] = {". 60 A 192.0.2.1\n", "\n;\n. 60 IN A ( 192.0.2.1 ; c\n)\n"};
     for (size_t kind = 0; kind < 2; kind++) {
         struct dnw_zone zone;
-        struct dnw_zone_read got;
+        struct dnw_rows_read got;
         if (size * strlen(records[kind]) > sizeof input)
             continue;
         input_len = 0;
@@ -545,7 +545,7 @@ static void reads_rows(size_t size)
     if (size > LONGEST)
         return;
     struct dnw_zone zone;
-    struct dnw_zone_read got;
+    struct dnw_rows_read got;
     input_len = 0;
     put(". 60 NULL \\# ", 13);
     char text[24];

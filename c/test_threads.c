@@ -83,7 +83,7 @@ static void call_texts(struct results *results)
     KEEP(dnw_zone_next(BYTES("b 1 MX ( 1\n c )\n"), false, &state, buffer, sizeof buffer, &entry), buffer, entry.len);
     uint8_t room[DNW_ZONE_OCTETS_SIZE];
     struct dnw_zone_row row;
-    struct dnw_zone_read got;
+    struct dnw_rows_read got;
     KEEP(dnw_zone_read(BYTES("b 1 MX ( 1\n c )\n"), false, &state, &row, 1, room, sizeof room, &got), room, got.octets_len);
 }
 

@@ -314,7 +314,7 @@ static void lacks_room(void)
 enum { ROWS = 16, ALL_OCTETS = 4 * DNW_ZONE_OCTETS_SIZE };
 static struct dnw_zone_row rows[ROWS + 1];
 static uint8_t row_octets[ALL_OCTETS];
-static struct dnw_zone_read got;
+static struct dnw_rows_read got;
 
 static uint32_t read_in(const char *text, size_t len, bool more, size_t most, size_t size)
 {

@@ -220,7 +220,7 @@ static void read_rows(const uint8_t *text, size_t len, size_t most, size_t room)
 {
     static const uint8_t origin[] = "\001o\000";
     struct dnw_zone zone;
-    struct dnw_zone_read got;
+    struct dnw_rows_read got;
     struct dnw_zone_entry entry;
     struct wanted wanted;
     size_t at = 0, seen = 0;
@@ -283,7 +283,7 @@ static void read_spoiled(const uint8_t *data, size_t size)
         answer = take(data, size, calls % 2, &zone, clear(&octets, SIZE), SIZE, &entry);
         CHECK(answer == DNW_DONE || answer == DNW_BAD_ITEM);
         struct dnw_zone_row row;
-        struct dnw_zone_read got;
+        struct dnw_rows_read got;
         CHECK((dnw_zone_read(data, size, calls % 2, &file, &row, 1, clear(&octets, SIZE), SIZE, &got) == DNW_DONE)
               == (dnw_zone_read(data, size, calls % 2, &file, &row, 1, clear(&octets, SIZE), SIZE, &got) == DNW_DONE));
         zone.owner_len = calls < 4 ? 0 : zone.owner_len;

@@ -710,7 +710,7 @@ struct dnw_zone_row {
 };
 
 /* How much dnw_zone_read read and stored, and why not more. */
-struct dnw_zone_read {
+struct dnw_rows_read {
     size_t used;       /* the octets of the text: what comes next begins after them */
     size_t row_count;
     size_t octets_len; /* of all rows */
@@ -762,7 +762,7 @@ uint32_t dnw_zone_next(const uint8_t *text, size_t text_len, bool more, struct d
    It fails with DNW_NO_ROOM if `octets_size` is less than DNW_ZONE_OCTETS_SIZE, and else with DNW_BAD_ITEM if the state is
    spoiled. */
 uint32_t dnw_zone_read(const uint8_t *text, size_t text_len, bool more, struct dnw_zone *zone, struct dnw_zone_row *rows,
-                       size_t rows_size, uint8_t *octets, size_t octets_size, struct dnw_zone_read *read);
+                       size_t rows_size, uint8_t *octets, size_t octets_size, struct dnw_rows_read *read);
 
 /* Stores the record at offset `start` of a message as a line of a zone file, with the end of the line, and moves `zone` after
    it. What the entries before say is left out (RFC 1035, section 5.1; RFC 2308, section 4): the owner if it is that of the

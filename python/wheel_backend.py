@@ -21,7 +21,7 @@ HERE = pathlib.Path(__file__).resolve().parent
 LIBRARY = "libdns_names_wire.so"
 LICENCES = ["NOTICE", "LICENSE-APACHE", "LICENSE-MIT"]
 NAME = "dns_names_wire"
-# The version, the authors and the place are only in rust/Cargo.toml.
+# The version and the authors are only in rust/Cargo.toml.
 CARGO = (HERE.parent / "rust/Cargo.toml").read_text()
 VERSION = re.search(r'^version = "(.+)"$', CARGO, re.M)[1]
 AUTHORS = re.search(r'^authors = \["(.+)"\]$', CARGO, re.M)[1]

@@ -78,7 +78,7 @@ pub(crate) struct ZoneRow {
     pub(crate) record_class: u16,
 }
 
-/// `struct dnw_zone_read`
+/// `struct dnw_rows_read`
 #[repr(C)]
 #[derive(Clone, Copy, Default)]
 pub(crate) struct ZoneRead {
