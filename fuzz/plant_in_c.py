@@ -49,6 +49,7 @@ SUBJECTS = {
     "dnw_zone_put_origin": "origin_len / 2",
     "dnw_zone_put_record": OF_DATA,
     "dnw_zone_put_ttl": "ttl",
+    "dnw_zone_read": "(text_len - 14) / 3",  # octets in the form of any data
 }
 TYPES = {
     "dnw_data_parse": "record_type",
