@@ -46,6 +46,8 @@ SAMPLES = {
     "dnw_message_table": {"message": MESSAGE, "max_pointers": 100},
     "dnw_record_data": {"message": MESSAGE, "start": 29},
     "dnw_record_print": {"message": MESSAGE, "start": 29},
+    "dnw_message_print": {"message": MESSAGE, "max_pointers": 100},
+    "dnw_message_json": {"message": MESSAGE, "max_pointers": 100},
     "dnw_data_parse": {"record_class": 1, "record_type": 15, "text": b"10 mail"},
     "dnw_record_parse": {"text": b"www 60 IN MX 10 mail"},
     "dnw_record_text_fault": {"text": b"www 60 IN MX mail"},
