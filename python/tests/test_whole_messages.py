@@ -90,7 +90,7 @@ class WholeMessages(unittest.TestCase):
         )
         # Two OPT records break a rule of EDNS, and are printed as records.
         shown = str(Message.from_wire(with_additionals(opt("00", ""), opt("00", ""))))
-        self.assertIn("\n\n;; WARNING: EDNS breaks a rule: more than one EDNS record\n\n;; QUESTION SECTION:", shown)
+        self.assertIn("\n\n;; WARNING: EDNS breaks a rule: more than one EDNS record\n\n;; ADDITIONAL SECTION:", shown)
         self.assertTrue(shown.endswith("\n\n;; ADDITIONAL SECTION:" + "\n. 0 CLASS256 OPT \\# 0" * 2), shown)
 
     def test_fields_are_read(self):

@@ -75,8 +75,10 @@ impl<'a> ZoneReader<'a> {
     /// use dns_names_wire::{ZoneItem, ZoneReader};
     ///
     /// let mut zone = ZoneReader::new(b"www A 192.0.2.1\n", &"example.".parse()?).default_ttl(3600);
-    /// let Some(ZoneItem::Record(record)) = zone.next().transpose()? else { panic!("the text has a record") };
-    /// assert_eq!(record.ttl(), 3600);
+    /// match zone.next().transpose()? {
+    ///     Some(ZoneItem::Record(record)) => assert_eq!(record.ttl(), 3600),
+    ///     _ => panic!("the text has a record"),
+    /// }
     /// # Ok::<(), Box<dyn std::error::Error>>(())
     /// ```
     pub fn default_ttl(mut self, ttl: u32) -> Self {

@@ -21,22 +21,26 @@ fn is_plain(text: &str) -> bool {
     text.chars().all(|it| !is_turn(it) && (!it.is_control() || it == '\n' || it == '\t'))
 }
 
+/// The octets of a row of the command `message`, whether it has `--json`, and what is printed.
+fn row_of(line: &str) -> Option<(Vec<u8>, bool, String)> {
+    let (words, text) = line.strip_prefix("message ")?.split_once(" = 0 ")?;
+    let (flags, given): (Vec<&str>, Vec<&str>) = words.split(' ').partition(|word| *word == "--json");
+    match given[..] {
+        [digits] => Some((octets(digits)?, !flags.is_empty(), text.replace("//", "\n"))),
+        _ => None,
+    }
+}
+
 #[test]
 fn messages_are_printed_as_the_program_prints_them() {
-    let mut rows = 0;
-    for line in lines("dnw.txt") {
-        let Some((words, text)) = line.strip_prefix("message ").and_then(|line| line.split_once(" = 0 ")) else { continue };
-        let words: Vec<&str> = words.split(' ').collect();
-        let is_json = words.contains(&"--json");
-        let given: Vec<&str> = words.into_iter().filter(|word| *word != "--json").collect();
-        let Some(message) = given.first().filter(|_| given.len() == 1).and_then(|digits| octets(digits)) else { continue };
+    let rows: Vec<_> = lines("dnw.txt").iter().filter_map(|line| row_of(line)).collect();
+    assert!(rows.len() >= 10, "{}", rows.len());
+    for (message, is_json, text) in rows {
         let message = Message::read(&message).unwrap();
         let printed = if is_json { message.to_json().unwrap() } else { message.to_string() };
-        assert_eq!(printed, text.replace("//", "\n"), "{line}");
-        assert!(is_plain(&printed), "{line}");
-        rows += 1;
+        assert_eq!(printed, text);
+        assert!(is_plain(&printed), "{}", text);
     }
-    assert!(rows >= 10, "{rows}");
 }
 
 #[test]
