@@ -14,7 +14,6 @@ use core::iter::FusedIterator;
 /// How many compression pointers the names of a message may follow in total, by default.
 const MAX_POINTERS: usize = 65536;
 
-
 /// A message that was checked as a whole (RFC 1035, section 4): its header, its questions and its records are all
 /// there. It borrows the octets that it was read from.
 ///

@@ -11,13 +11,15 @@ fn lines(file: &str) -> Vec<String> {
 /// The octets of hexadecimal digits, or `None` if there is something else.
 fn octets(digits: &str) -> Option<Vec<u8>> {
     let is_digits = digits.len() % 2 == 0 && digits.bytes().all(|it| it.is_ascii_hexdigit());
-    is_digits.then(|| (0..digits.len()).step_by(2).map(|at| u8::from_str_radix(&digits[at..at + 2], 16).unwrap()).collect())
+    is_digits
+        .then(|| (0..digits.len()).step_by(2).map(|at| u8::from_str_radix(&digits[at..at + 2], 16).unwrap()).collect())
 }
 
 /// No text has a character for control but line feed and tab, nor one that turns its direction.
 fn is_plain(text: &str) -> bool {
     let turns = ['\u{61C}', '\u{200E}', '\u{200F}', '\u{2028}', '\u{2029}'];
-    let is_turn = |it| turns.contains(&it) || ('\u{202A}'..='\u{202E}').contains(&it) || ('\u{2066}'..='\u{2069}').contains(&it);
+    let is_turn =
+        |it| turns.contains(&it) || ('\u{202A}'..='\u{202E}').contains(&it) || ('\u{2066}'..='\u{2069}').contains(&it);
     text.chars().all(|it| !is_turn(it) && (!it.is_control() || it == '\n' || it == '\t'))
 }
 
@@ -54,7 +56,14 @@ fn replies_are_printed_as_dig_prints_them() {
 /// Names, options and texts of errors that have any octets.
 #[test]
 fn what_is_printed_has_no_control_characters() {
-    let texts = ["\u{202E}", "\u{61C}", "\u{200E}\u{200F}", "\u{2028}\u{2029}\u{202A}", "\u{2066}\u{2069}", "\x1B[31m\r\n\t\x7F\u{9B}"];
+    let texts = [
+        "\u{202E}",
+        "\u{61C}",
+        "\u{200E}\u{200F}",
+        "\u{2028}\u{2029}\u{202A}",
+        "\u{2066}\u{2069}",
+        "\x1B[31m\r\n\t\x7F\u{9B}",
+    ];
     for text in texts {
         let name: Vec<u8> = (1..=49).chain(127..=140).collect();
         let option = [&[0, 15][..], &[0, 2 + text.len() as u8, 0, 6], text.as_bytes(), &[0, 3, 0, 63], &name].concat();
