@@ -280,7 +280,9 @@ impl MessageBuilder {
         let put = name.into().put(items);
         items.extend_from_slice(&record_type.code().to_be_bytes());
         items.extend_from_slice(&class.code().to_be_bytes());
-        self.failure = self.failure.or(put.err());
+        if let Err(error) = put {
+            self.failure.get_or_insert(error);
+        }
         self
     }
 

@@ -47,7 +47,7 @@ fn messages_of_any_size_have_texts(rt: HostRuntime) -> Result<(), Fail> {
         let asked = message_of(alloc, *count, 0, questions.as_slice())?;
         assert!(rt; is_long(alloc, asked.as_slice(), *count * 8)?);
         let answered = message_of(alloc, 0, *count, answers.as_slice())?;
-        assert!(rt; is_long(alloc, answered.as_slice(), *count * 20)?);
+        assert!(rt; is_long(alloc, answered.as_slice(), *count * 19)?);
     }
     Ok(())
 }

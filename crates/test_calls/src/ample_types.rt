@@ -249,6 +249,10 @@ fn zone_files_have_records_of_each_type(rt: HostRuntime) -> Result<(), Fail> {
     let alloc = rt.alloc();
     let all = samples(alloc)?;
     for it in &all {
+        // Those of questions and of messages are no types of a zone (RFC 6895, section 3.1).
+        if matches!(it.code, 41 | 128..=255) {
+            continue;
+        }
         let item = RecordRef::from_bytes(alloc, it.octets.as_slice())?;
         let mut line = Vec::new(alloc);
         line.extend_from_slice(record_text(alloc, &item)?.as_bytes())?;

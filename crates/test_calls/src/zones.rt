@@ -217,7 +217,7 @@ const LINES: [&str; 9] = [
     "example. 5 IN TXT b",
     "a\\.b.c.example. 60 CH TXT c",
     "c.EXAMPLE. 60 IN A 192.0.2.1",
-    "C.EXAMPLE. 60 IN TYPE255 \\# 0",
+    "C.EXAMPLE. 60 IN TYPE65280 \\# 0",
     "xexample. 60 IN A 192.0.2.1",
     "\\@.example. 60 IN A 192.0.2.1",
     ". 60 IN A 192.0.2.1",
@@ -225,7 +225,7 @@ const LINES: [&str; 9] = [
 
 /// These in short form.
 const SHORT: &[u8] =
-    b"b.example. 5 IN NS ns.example.\n$ORIGIN example.\n$TTL 60\n@ IN TXT \"a\"\n 5 IN TXT \"b\"\na\\.b.c CH TXT \"c\"\nc.EXAMPLE. IN A 192.0.2.1\nC.EXAMPLE. IN ANY \\# 0\nxexample. IN A 192.0.2.1\n\\@ IN A 192.0.2.1\n. IN A 192.0.2.1\n";
+    b"b.example. 5 IN NS ns.example.\n$ORIGIN example.\n$TTL 60\n@ IN TXT \"a\"\n 5 IN TXT \"b\"\na\\.b.c CH TXT \"c\"\nc.EXAMPLE. IN A 192.0.2.1\nC.EXAMPLE. IN TYPE65280 \\# 0\nxexample. IN A 192.0.2.1\n\\@ IN A 192.0.2.1\n. IN A 192.0.2.1\n";
 
 /// Returns the octets of a record of a zone.
 fn octets_of(alloc: Global, found: &OwnedRecord) -> Result<Vec<u8>, Fail> {
