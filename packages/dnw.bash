@@ -5,7 +5,7 @@ _dnw() {
         message) options='--lines --framed --json' ;;
         query) options='--id= --edns --dnssec --option= --tcp' ;;
         name) options='--key --reverse --sort' ;;
-        zone) options='--origin --sort --relative --wire --check' ;;
+        zone) options='--origin --ttl= --sort --relative --wire --check' ;;
     esac
     case $command,$COMP_CWORD,$before in
         *,1,*) words='message query name key-tag ds nsec3 zone-digest zone --help' ;;
