@@ -3,8 +3,13 @@
 use dns_names_wire::Message;
 use std::{fs, path::Path};
 
+/// The rows of a file of the repository, or none in a package, which has no such files.
 fn lines(file: &str) -> Vec<String> {
-    let text = fs::read_to_string(Path::new(env!("CARGO_MANIFEST_DIR")).join("../diff").join(file)).unwrap();
+    let folder = Path::new(env!("CARGO_MANIFEST_DIR")).join("../diff");
+    if !folder.is_dir() {
+        return Vec::new();
+    }
+    let text = fs::read_to_string(folder.join(file)).unwrap();
     text.lines().filter(|line| !line.is_empty() && !line.starts_with('#')).map(String::from).collect()
 }
 
@@ -35,8 +40,9 @@ fn row_of(line: &str) -> Option<(Vec<u8>, bool, String)> {
 
 #[test]
 fn messages_are_printed_as_the_program_prints_them() {
-    let rows: Vec<_> = lines("dnw.txt").iter().filter_map(|line| row_of(line)).collect();
-    assert!(rows.len() >= 10, "{}", rows.len());
+    let lines = lines("dnw.txt");
+    let rows: Vec<_> = lines.iter().filter_map(|line| row_of(line)).collect();
+    assert!(lines.is_empty() || rows.len() >= 10, "{}", rows.len());
     for (message, is_json, text) in rows {
         let message = Message::read(&message).unwrap();
         let printed = if is_json { message.to_json().unwrap() } else { message.to_string() };
