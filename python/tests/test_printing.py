@@ -24,6 +24,7 @@ def is_plain(text):
 
 
 class Printing(unittest.TestCase):
+    @unittest.skipUnless(DIFF.is_dir(), "only the repository has the rows")
     def test_messages_are_printed_as_the_program_prints_them(self):
         rows = 0
         for line in lines("dnw.txt"):
@@ -36,6 +37,7 @@ class Printing(unittest.TestCase):
                 rows += 1
         self.assertGreaterEqual(rows, 10)
 
+    @unittest.skipUnless(DIFF.is_dir(), "only the repository has the rows")
     def test_replies_are_printed_as_dig_prints_them(self):
         for line in lines("servers/replies.txt"):
             _, digits, text = line.split(" ", 2)
