@@ -21,7 +21,7 @@ HEAD = """\
 # The wrong bodies that the prover refused, as tools/wrong-bodies --record writes them: name, key, and how each was refused.
 """
 # Of the edits that are recorded, a run tries those of one crate in so many: what a crate stands on is loaded once for all of them.
-ONE_IN = 10
+ONE_IN = 20
 # Of all edits, no more than one in so many may be without a record.
 MOST_STALE = 20
 
@@ -57,7 +57,7 @@ class Record:
         return self.rows.get(edit.label, ("",))[0] == key_of(edit)
 
     def is_sampled(self, edit, commit):
-        """Whether this run tries an edit that is recorded: those of one crate in ten, of other crates for each commit."""
+        """Whether this run tries an edit that is recorded: those of one crate in twenty, of other crates for each commit."""
         return int(sum_of(commit, edit.crate), 16) % ONE_IN == 0
 
     def note(self, verdicts):
