@@ -40,7 +40,7 @@ module _ (zone : ZoneValue) (name : List (List ℕ)) where
   unfolding is_due
   ns_due cut = rw (ns_there cut, cut) refl
 
-  soa_not_due : is_delegation zone name ≡ true → is_due zone name soa_code ≡ false
+  pub soa_not_due : is_delegation zone name ≡ true → is_due zone name soa_code ≡ false
   unfolding is_due
   soa_not_due cut = rw cut (and_right (have_type soa_code (owned_by name zone.records)) false refl)
 
@@ -80,7 +80,7 @@ chain_types zone nsec link = record {
   only_soa = link.types soa_code ∙ no_others (is_due zone nsec.owner soa_code);
 }
 
-in_zone : (zone name : List (List ℕ)) (zs : List RecordValue) → AllByRecursion (λ r. is_in zone r.owner ≡ true) zs → list_any (λ r. is_same r.owner name) zs ≡ true
+pub in_zone : (zone name : List (List ℕ)) (zs : List RecordValue) → AllByRecursion (λ r. is_in zone r.owner ≡ true) zs → list_any (λ r. is_same r.owner name) zs ≡ true
     → is_in zone name ≡ true
 in_zone zone name [] all h = absurd (true≢false (sym h))
 in_zone zone name (z ∷ zs) (one, all) h = elim (or_cases (is_same z.owner name) (list_any (λ r. is_same r.owner name) zs) h) [

@@ -43,7 +43,7 @@ HoldsIfSome zone name (Some e) = Holds zone name e
 
 -- ---- the record of a name
 
-due_alike : (zone : ZoneValue) (x y : List (List ℕ)) (code : ℕ) → lower x ≡ lower y → is_due zone x code ≡ is_due zone y code
+pub due_alike : (zone : ZoneValue) (x y : List (List ℕ)) (code : ℕ) → lower x ≡ lower y → is_due zone x code ≡ is_due zone y code
 unfolding is_due
 due_alike zone x y code h = rw (owned_alike x y zone.records h, delegation_alike zone x y h) refl
 

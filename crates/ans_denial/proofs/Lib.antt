@@ -4,6 +4,8 @@ pub mod Covers
 pub mod Covering
 pub mod Holding
 pub mod Sound
+pub mod Speaking
+pub mod Complete
 pub mod Steps
 pub mod Referring
 pub mod Hashed

@@ -22,7 +22,7 @@ use Rattle.ans_denial.proofs.Sending.{not_delegation, owned_alike}
 -- ---- types
 
 -- A type that is not present at a name, which is no delegation, is not there.
-kind_none : (zone : ZoneValue) (name : List (List ℕ)) (types : List ℕ) (code : ℕ) → AreTypesOf zone name types → is_of_delegation types ≡ false
+pub kind_none : (zone : ZoneValue) (name : List (List ℕ)) (types : List ℕ) (code : ℕ) → AreTypesOf zone name types → is_of_delegation types ≡ false
     → is_present types code ≡ false → kind (owned_by name zone.records) code ≡ NoRecords
 unfolding kind is_present
 kind_none zone name types code are other h =
@@ -38,21 +38,21 @@ kind_empty : (code : ℕ) → kind [] code ≡ NoRecords
 unfolding kind
 kind_empty code = refl
 
-owned_kind : (zone : ZoneValue) (name : List (List ℕ)) (code : ℕ) → owned_by name zone.records ≡ [] → kind (owned_by name zone.records) code ≡ NoRecords
+pub owned_kind : (zone : ZoneValue) (name : List (List ℕ)) (code : ℕ) → owned_by name zone.records ≡ [] → kind (owned_by name zone.records) code ≡ NoRecords
 owned_kind zone name code none = rw none (kind_empty code)
 
 -- ---- what the zone says of a name that nothing sends away
 
-outcome_is : (zone : ZoneValue) (name : List (List ℕ)) (code : ℕ) → is_in zone.apex name ≡ true → sent_above zone name ≡ None
+pub outcome_is : (zone : ZoneValue) (name : List (List ℕ)) (code : ℕ) → is_in zone.apex name ≡ true → sent_above zone name ≡ None
     → outcome zone name code ≡ itself zone name code
 unfolding outcome
 outcome_is zone name code inside free = rw (inside, free) refl
 
-kept : (zone : ZoneValue) (name : List (List ℕ)) (code : ℕ) → is_delegation zone name ≡ false → is_sent zone name code ≡ false
+pub kept : (zone : ZoneValue) (name : List (List ℕ)) (code : ℕ) → is_delegation zone name ≡ false → is_sent zone name code ≡ false
 unfolding is_sent
 kept zone name code other = and_left (is_delegation zone name) (not (code == ds_code)) other
 
-there_is : (zone : ZoneValue) (name : List (List ℕ)) (code : ℕ) → is_in zone.apex name ≡ true → sent_above zone name ≡ None → is_sent zone name code ≡ false
+pub there_is : (zone : ZoneValue) (name : List (List ℕ)) (code : ℕ) → is_in zone.apex name ≡ true → sent_above zone name ≡ None → is_sent zone name code ≡ false
     → name_exists name zone.records ≡ true → outcome zone name code ≡ Exact (owned_by name zone.records)
 there_is zone name code inside free stays there =
     outcome_is zone name code inside free ∙ sym (itself_there zone name code (owned_by name zone.records) stays there refl)
@@ -71,11 +71,11 @@ missing_is zone name closest code inside missing =
 
 -- ---- what is proved of a name that exists
 
-apex_due : (zone : ZoneValue) (name : List (List ℕ)) → IsZone zone → is_same name zone.apex ≡ true → is_due zone name soa_code ≡ true
+pub apex_due : (zone : ZoneValue) (name : List (List ℕ)) → IsZone zone → is_same name zone.apex ≡ true → is_due zone name soa_code ≡ true
 unfolding is_due is_delegation
 apex_due zone name ok same = rw (same, owned_alike name zone.apex zone.records (lower_if_same name zone.apex same), ok.has_soa) refl
 
-not_of_apex : (zone : ZoneValue) (name : List (List ℕ)) (types : List ℕ) → IsZone zone → AreTypesOf zone name types → lists types soa_code ≡ false
+pub not_of_apex : (zone : ZoneValue) (name : List (List ℕ)) (types : List ℕ) → IsZone zone → AreTypesOf zone name types → lists types soa_code ≡ false
     → is_same name zone.apex ≡ false
 not_of_apex zone name types ok are none =
     false_from_ne_true (is_same name zone.apex) (λ same. true≢false (sym (apex_due zone name ok same) ∙ (sym are.only_soa ∙ none)))
@@ -84,12 +84,12 @@ ns_if_due : (zone : ZoneValue) (name : List (List ℕ)) → is_due zone name ns_
 unfolding is_due
 ns_if_due zone name due = (and_parts (have_type ns_code (owned_by name zone.records)) _ due).0
 
-cut_if : (zone : ZoneValue) (name : List (List ℕ)) → is_same name zone.apex ≡ false → have_type ns_code (owned_by name zone.records) ≡ true
+pub cut_if : (zone : ZoneValue) (name : List (List ℕ)) → is_same name zone.apex ≡ false → have_type ns_code (owned_by name zone.records) ≡ true
     → is_delegation zone name ≡ true
 unfolding is_delegation
 cut_if zone name apart ns = rw (apart, ns) refl
 
-is_cut : (zone : ZoneValue) (name : List (List ℕ)) (types : List ℕ) → IsZone zone → AreTypesOf zone name types → is_of_delegation types ≡ true
+pub is_cut : (zone : ZoneValue) (name : List (List ℕ)) (types : List ℕ) → IsZone zone → AreTypesOf zone name types → is_of_delegation types ≡ true
     → is_delegation zone name ≡ true
 unfolding is_of_delegation
 is_cut zone name types ok are h =
@@ -106,7 +106,7 @@ cut_listed : (zone : ZoneValue) (name : List (List ℕ)) (types : List ℕ) → 
 cut_listed zone name types are cut none =
     false_from_ne_true (have_type ds_code (owned_by name zone.records)) (λ there. true≢false (sym (are.all ds_code (ds_due zone name cut there)) ∙ none))
 
-leaves : (zone : ZoneValue) (name : List (List ℕ)) → is_delegation zone name ≡ true → is_sent zone name ns_code ≡ true
+pub leaves : (zone : ZoneValue) (name : List (List ℕ)) → is_delegation zone name ≡ true → is_sent zone name ns_code ≡ true
 unfolding is_sent
 leaves zone name cut = rw cut refl
 
@@ -149,7 +149,7 @@ pub wild_is : (zone : ZoneValue) (name wild : List (List ℕ)) (code : ℕ) → 
 unfolding by_wildcard
 wild_is zone name wild code is there = is ∙ rw there refl
 
-no_wild : (zone : ZoneValue) (name wild : List (List ℕ)) (code : ℕ) → outcome zone name code ≡ by_wildcard zone wild → name_exists wild zone.records ≡ false
+pub no_wild : (zone : ZoneValue) (name wild : List (List ℕ)) (code : ℕ) → outcome zone name code ≡ by_wildcard zone wild → name_exists wild zone.records ≡ false
     → outcome zone name code ≡ NoSuchName
 unfolding by_wildcard
 no_wild zone name wild code is gone = is ∙ rw gone refl

@@ -2,6 +2,7 @@ pub mod Nsecs
 pub mod Denials
 pub mod Chains
 pub mod Soundness
+pub mod Completeness
 pub mod Seen
 pub mod Hashes
 pub mod HashedChains
