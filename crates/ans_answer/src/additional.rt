@@ -7,11 +7,11 @@ ghost use Rattle.ans_answer.specs.Answers.{records_of_type};
 ghost use Rattle.ans_answer.specs.Seen.{HasRecords, IsOfRecords, outcome_seen, records_seen};
 ghost use Rattle.ans_answer.specs.Targets.{name_in};
 
-use crate::codes::{MX, NS, SRV};
 use crate::outcome::{Outcome, outcome_of};
 use crate::target::name_in;
 use ans_store::lookup::Node;
 use ans_store::store::ZoneStore;
+use dns_names_wire::type_codes::{MX, NS, SRV};
 use dns_names_wire::{Name, RecordRef};
 use std::alloc::Global;
 

@@ -7,7 +7,6 @@ ghost use Rattle.ans_answer.specs.Outcomes.{kind};
 ghost use Rattle.ans_answer.specs.Seen.{HasRecords, IsOfRecords, LeadHasRecords, all_labels, answer_seen, numbered_name, lead_seen, names_of, next_seen, node_records, outcome_seen};
 ghost use Rattle.ans_answer.specs.declared.answer.Rcode.TheVariants.{Refused};
 
-use crate::codes::{CNAME, DNAME, NS};
 use crate::kind::{Kind, kind_of};
 use crate::lead::{Lead, lead_of};
 use crate::outcome::{Outcome, is_in, is_same};
@@ -15,6 +14,7 @@ use crate::target::Next;
 use ans_store::lookup::Node;
 use ans_store::store::ZoneStore;
 use dns_names_wire::Name;
+use dns_names_wire::type_codes::{CNAME, DNAME, NS};
 use std::alloc::{AllocError, Global};
 
 /// The most aliases that are followed. No RFC has a number: knotd 3.2 follows 5, named 9.18 follows 12, and nsd 4.6 each.

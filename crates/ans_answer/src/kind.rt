@@ -3,9 +3,9 @@ ghost use Rattle.std.specs.Prelude.{◌≡◌, ◌≤◌, length, slice_range};
 ghost use Rattle.std.specs.List.{list_any};
 ghost use Rattle.ans_answer.specs.Outcomes.{is_wanted, kind};
 
-use crate::codes::{ANY, CNAME};
 use ans_store::lookup::Node;
 use ans_store::store::ZoneStore;
+use dns_names_wire::type_codes::{ANY, CNAME};
 
 /// What the records of a name say of a type.
 #[derive(Debug, Clone, Copy, PartialEq, Eq)]

@@ -4,13 +4,13 @@ ghost use Rattle.ans_answer.specs.Answers.{lead, lead_by_kind};
 ghost use Rattle.ans_answer.specs.Outcomes.{kind};
 ghost use Rattle.ans_answer.specs.Seen.{HasRecords, IsOfRecords, LeadHasRecords, lead_seen, node_records, outcome_seen};
 
-use crate::codes::{CNAME, DNAME};
 use crate::kind::{Kind, kind_of};
 use crate::outcome::{Outcome, outcome_of};
 use crate::target::{Next, redirected, renamed};
 use ans_store::lookup::Node;
 use ans_store::store::ZoneStore;
 use dns_names_wire::Name;
+use dns_names_wire::type_codes::{CNAME, DNAME};
 use std::alloc::Global;
 
 /// What a name is.

@@ -6,7 +6,6 @@
 
 pub mod additional;
 pub mod answer;
-mod codes;
 pub mod denial;
 pub mod kind;
 pub mod lead;

@@ -7,10 +7,10 @@ ghost use Rattle.ans_answer.specs.Outcomes.{by_wildcard, is_delegation, is_sent,
 ghost use Rattle.ans_answer.specs.Seen.{HasRecords, outcome_seen};
 ghost use Rattle.ans_answer.specs.Inside.Ways.{EndsDown, IsWay};
 
-use crate::codes::{DNAME, DS, NS};
 use ans_store::lookup::Node;
 use ans_store::store::ZoneStore;
 use dns_names_wire::Name;
+use dns_names_wire::type_codes::{DNAME, DS, NS};
 
 /// What a zone says of a name: where the name leads to, and which records are owned there.
 #[derive(Debug, Clone, Copy, PartialEq, Eq)]

@@ -8,17 +8,15 @@ ghost use Rattle.ans_answer.specs.Outcomes.{is_wanted};
 ghost use Rattle.ans_answer.specs.Seen.{next_seen};
 ghost use Rattle.ans_answer.specs.Targets.{if_short, name_in, redirected, renamed};
 
-use crate::codes::ANY;
 use crate::outcome::{count_of, last_labels};
 use ans_store::lookup::Node;
 use ans_store::store::ZoneStore;
+use dns_names_wire::limits::MAX_NAME;
 use dns_names_wire::message_writer::whole_name;
 use dns_names_wire::name::laws;
+use dns_names_wire::type_codes::ANY;
 use dns_names_wire::{BinDecoder, Name, RecordRef};
 use std::alloc::Global;
-
-/// The most octets of a name in wire form (RFC 1035, section 2.3.4).
-const MAX_NAME: usize = 255;
 
 /// What a name leads to.
 #[derive(Drop)]

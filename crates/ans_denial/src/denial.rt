@@ -9,15 +9,9 @@ ghost use Rattle.ans_denial.specs.Seen.{codes, existence_seen, last_labels, nsec
 
 use crate::nsec::{Existence, Nsec, existence_of, is_in, wildcard_beside};
 use crate::nsec3::{Hashing, Nsec3, hash_count, hashed_existence};
-use crate::types::{SOA, is_of_delegation, lists};
+use crate::types::{is_of_delegation, lists};
+use dns_names_wire::type_codes::{ANY, CNAME, DS, SOA};
 use dns_names_wire::{Name, RecordTypeSet};
-
-/// The types CNAME (RFC 1035, section 3.3.1) and DS (RFC 4034, section 5), and that of all records (RFC 1035, section 3.2.3).
-const CNAME: u16 = 5;
-
-const DS: u16 = 43;
-
-const ANY: u16 = 255;
 
 /// What records prove of a name and a type.
 #[derive(Debug, Clone, Copy, PartialEq, Eq)]

@@ -4,13 +4,7 @@ ghost use Rattle.ans_denial.specs.Nsecs.{is_of_delegation, lists, sends_below};
 ghost use Rattle.ans_denial.specs.Seen.{codes};
 
 use dns_names_wire::RecordTypeSet;
-
-/// The types NS (RFC 1035, section 3.3.11), SOA (RFC 1035, section 3.3.13) and DNAME (RFC 6672, section 2.1).
-const NS: u16 = 2;
-
-pub(crate) const SOA: u16 = 6;
-
-const DNAME: u16 = 39;
+use dns_names_wire::type_codes::{DNAME, NS, SOA};
 
 /// Returns `true` if a type is listed.
 pub(crate) fn lists(types: &RecordTypeSet, code: u16) -> bool

@@ -10,12 +10,10 @@ use crate::asked::Asked;
 use crate::names::{copy_of, is_same};
 use crate::reason::Reason;
 use crate::sought::{Sought, first_sought};
+use dns_names_wire::limits::MAX_NAME;
 use dns_names_wire::message::MessageRef;
 use dns_names_wire::name::laws;
 use dns_names_wire::{BinDecoder, Name, NameRef, RecordRef};
-
-/// The most octets of a name in wire form (RFC 1035, section 2.3.4).
-const MAX_NAME: usize = 255;
 
 /// Returns the name that a name is an alias of, if it is one (RFC 1034, section 3.6.2; RFC 6672, section 2.2).
 ///

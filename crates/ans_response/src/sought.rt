@@ -9,19 +9,8 @@ ghost use Rattle.ans_response.specs.Seen.{sought_in};
 use crate::asked::Asked;
 use crate::names::{is_above, is_below, is_same, is_within};
 use dns_names_wire::message::Records;
+use dns_names_wire::type_codes::{ANY, CNAME, DNAME, NS, SOA};
 use dns_names_wire::{Name, NameRef, RecordRef};
-
-/// The types NS, CNAME and SOA (RFC 1035, section 3.2.2), DNAME (RFC 6672, section 2.1), and that of all records (RFC 1035, section
-/// 3.2.3).
-const NS: u16 = 2;
-
-const CNAME: u16 = 5;
-
-const SOA: u16 = 6;
-
-const DNAME: u16 = 39;
-
-const ANY: u16 = 255;
 
 /// What is sought at a name.
 #[derive(Debug, Clone, Copy, PartialEq, Eq)]

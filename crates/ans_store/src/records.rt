@@ -4,15 +4,13 @@ ghost use Rattle.dns_names_wire.specs.Words.{AreLabels, FailsRecord, RecordAt};
 ghost use Rattle.ans_store.specs.Stored.{AreRecordsFrom, FailsToStore, FailsToTake, HasWholeOwner, IsTaken};
 
 use crate::error::StoreError;
+use dns_names_wire::limits::MAX_NAME;
 use dns_names_wire::{BinDecoder, DecodeError, RecordRef};
 use std::alloc::Global;
 use std::marker::Model;
 
 /// The most octets of the records of a store, so that an offset takes four octets.
 pub(crate) const MAX_OCTETS: usize = 0xffff_ffff;
-
-/// The most octets of a name in wire form (RFC 1035, section 2.3.4).
-const MAX_NAME: usize = 255;
 
 /// How many octets are between a record's owner and its data: type, class, time to live and length (RFC 1035, section 3.2.1).
 const FIXED_SIZE: usize = 10;

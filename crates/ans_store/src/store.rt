@@ -7,12 +7,10 @@ ghost use Rattle.ans_store.specs.Zones.{IsNode, IsZone, name_exists, have_type};
 use crate::error::StoreError;
 use crate::lookup::{self, Node, first_outside, out_of_order};
 use crate::records::Records;
+use dns_names_wire::type_codes::SOA;
 use dns_names_wire::{Name, RecordRef};
 use std::alloc::Global;
 use std::marker::Model;
-
-/// The type SOA (RFC 1035, section 3.2.2).
-const SOA: u16 = 6;
 
 /// A zone in memory: its apex, and its records in canonical order of their owners (RFC 4034, section 6.1). The octets of the records are
 /// the caller's, and are not copied; four octets a record are kept beside them. No look-up allocates.

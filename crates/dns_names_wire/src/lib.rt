@@ -153,6 +153,13 @@ pub mod label {
     pub use dnw_name_form::label::{CaseInsensitive, CaseSensitive, IntoLabel, Label, LabelCmp};
 }
 
+/// The limits of labels, names, records and messages.
+pub mod limits {
+    pub use dnw_base::limits::{
+        MAX_CHARACTER_DATA, MAX_DATA, MAX_LABEL, MAX_MESSAGE, MAX_NAME, MAX_POINTERS, MIN_PAYLOAD,
+    };
+}
+
 /// Domain names in lower case, as zones and caches are keyed.
 pub mod lower_name {
     pub use dnw_name_zones::lower_name::LowerName;
@@ -318,6 +325,7 @@ pub mod zone {
     pub use dnw_zone_file::context::Context;
     pub use dnw_zone_file::entry::{Entry, Include, ZoneRecord, entry_of};
     pub use dnw_zone_file::error::{ZoneError, ZoneRule};
+    pub use dnw_zone_file::generate::{Generated, is_generate, take_generated};
     pub use dnw_zone_file::laws;
     pub use dnw_zone_file::place::{TextPlace, place_of};
     pub use dnw_zone_file::short_line::{append_origin, append_short_record, append_ttl};
