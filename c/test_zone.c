@@ -88,7 +88,8 @@ static uint32_t next_in(const char *text, size_t len, bool more, size_t size)
     } else {
         EXPECT(memcmp(octets + entry.len, before, sizeof octets - entry.len) == 0);
         EXPECT(entry.used <= len && zone.offset == was.offset + entry.used);
-        EXPECT(entry.kind == DNW_ZONE_END || entry.kind == DNW_ZONE_MORE ? entry.used == 0 : entry.used > 0);
+        bool is_none = entry.kind == DNW_ZONE_END || entry.kind == DNW_ZONE_MORE;
+        EXPECT((entry.used == 0) == (is_none || zone.has_generate_next));
         EXPECT((entry.kind == DNW_ZONE_RECORD || entry.kind == DNW_ZONE_INCLUDE) == (entry.len > 0));
         EXPECT((entry.kind == DNW_ZONE_ERROR) == (entry.fault.reason > 0) && entry.fault.offset + entry.fault.len <= len);
     }
@@ -129,12 +130,16 @@ static void read_parts(const char *text, size_t len, size_t first, size_t step)
     }
 }
 
+/* How many records a $GENERATE may stand for. */
+static uint32_t generate_limit;
+
 static const char *reads(const char *origin, size_t origin_len, const char *text, size_t len, size_t first, size_t step)
 {
     lines_len = 0;
     lines[0] = '\0';
     memset(&zone, 0xAA, sizeof zone);
     EXPECT(dnw_zone_begin((const uint8_t *)origin, origin_len, &zone) == DNW_DONE);
+    zone.generate_limit = generate_limit;
     read_parts(text, len, first, step);
     EXPECT(zone.offset == len);
     return lines;
@@ -422,6 +427,33 @@ static void rows_stop(void)
     EXPECT(read_in("", 0, false, ROWS, ALL_OCTETS) == DNW_DONE && got.next == DNW_ZONE_END);
 }
 
+/* $GENERATE as named-compilezone (BIND 9.18) reads it, if the caller wants it. */
+static void generates(void)
+{
+    generate_limit = 3;
+    GIVES(ISI, "$TTL 60\n$GENERATE 1-6/2 a$ A 1.2.3.$ ; c\nb A 1.2.3.4\n$generate 2147483647-2147483647 ( @ IN 7\n TXT ) \\$$$b\n",
+          "2:1 a1.ISI.EDU. 60 IN A 1.2.3.1\n2:1 a3.ISI.EDU. 60 IN A 1.2.3.3\n2:1 a5.ISI.EDU. 60 IN A 1.2.3.5\n"
+          "3:1 b.ISI.EDU. 60 IN A 1.2.3.4\n4:1 ISI.EDU. 7 IN TXT \"$2147483647b\"\n");
+    GIVES(ROOT, "$GENERATE 1-2 $$a$ 7 MX \"10 m${10}\"\n$GENERATE 1-1 a TXT \"\\\"foo \\\\ \\$\\\" ${0}\"\n",
+          "1:1 \\$a1. 7 IN MX 10 m11.\n1:1 \\$a2. 7 IN MX 10 m12.\n2:1 a. 7 IN TXT \"foo \\\\ $\" \"1\"\n");
+    GIVES(ROOT, "$GENERATE 1-1 a 7 TXT \"${-10} ${+10} ${-10,5} ${10,5} ${-10,5,d} ${-1,2,d} ${00,05}\"\n",
+          "1:1 a. 7 IN TXT \"-9\" \"11\" \"-0009\" \"00011\" \"-0009\" \"00\" \"00001\"\n");
+    GIVES(ROOT, "$GENERATE 1-1 a 7 TXT \"${254,5,x} ${254,5,X} ${254,5,o} ${-10,5,x} ${-10,5,o} ${254,0,x}\"\n",
+          "1:1 a. 7 IN TXT \"000ff\" \"000FF\" \"00377\" \"fffffff7\" \"37777777767\" \"ff\"\n");
+    GIVES(ROOT, "$GENERATE 1-1 a 7 TXT \"${254,0,n} ${254,2,n} ${254,3,n} ${254,4,n} ${254,5,N} ${254,6,N} ${-10,5,n} ${-1,2,n}\"\n",
+          "1:1 a. 7 IN TXT \"f.f\" \"f.f\" \"f.f\" \"f.f.\" \"F.F.0\" \"F.F.0.\" \"7.f.f.f.f.f.f.f\" \"0.\"\n");
+    GIVES(ROOT, "$TTL 1\n$GENERATE 254-256 a$ A 1.2.3.$\n A 1.2.3.4\n$GENERATE 1-4 a$ A 1.2.3.4\n$GENERATE 2-1 a$ A 1.2.3.4\n"
+                "$GENERATE 1-2/0 a$ A 1.2.3.4\n$GENERATE\n$GENERATE 1-1 a\n$GENERATE 1-1 a BOGUS b\n$GENERATE 1-1 a A 1.2.3.4 x\n"
+                "$GENERATE 1-1 a..$ A 1.2.3.4\n$GENERATE 1-1 a TXT ${0,5,b}\n$GENERATE 1-1 a${ A 1.2.3.4\n$GENERATE 1-1 a TXT ${2147483647}\n",
+          "2:1 a254. 1 IN A 1.2.3.254\n2:1 a255. 1 IN A 1.2.3.255\n2:22 error: wanted an IPv4 address (field 0) `1.2.3.$`\n"
+          "3:1 a255. 1 IN A 1.2.3.4\n4:11 error: more records than the limit `1-4`\n5:11 error: no range is there `2-1`\n"
+          "6:11 error: no range is there `1-2/0`\n7:10 error: no range is there ``\n8:16 error: no type is there ``\n"
+          "9:17 error: the type is unknown `BOGUS`\n10:27 error: more words are there `x`\n11:15 error: the owner is no name `a..$`\n"
+          "12:21 error: wanted $ or ${offset,width,base} `${0,5,b}`\n13:15 error: wanted $ or ${offset,width,base} `a${`\n"
+          "14:21 error: wanted $ or ${offset,width,base} `${2147483647}`\n");
+    generate_limit = 0;
+}
+
 /* The state is plain data: a call fails or reads on, whatever it holds. */
 static void states_are_spoiled(void)
 {
@@ -653,6 +685,7 @@ int main(void)
     reads_rows();
     reads_rows_at_the_limits();
     rows_stop();
+    generates();
     states_are_spoiled();
     refuses_origins();
     writes_lines();

@@ -576,6 +576,9 @@ enum dnw_text_reason {
     DNW_REASON_UNKNOWN_TYPE = 20,             /* the type of a record of a zone file is unknown */
     DNW_REASON_OTHER_TYPE = 21,               /* no zone has records of the type: OPT, 128 to 255 (RFC 6895, section 3.1) */
     DNW_REASON_TIME_TOO_LARGE = 22,           /* a time of more than 2147483647 seconds (RFC 2181, section 8) */
+    DNW_REASON_NO_RANGE = 23,                 /* `$GENERATE` has no range */
+    DNW_REASON_TOO_MANY = 24,                 /* `$GENERATE` stands for more records than the limit */
+    DNW_REASON_BAD_TEMPLATE = 25,             /* a `$` of a template stands for nothing */
     DNW_REASON_NAME = 32,                     /* a name; one without a dot at its end if there is an origin */
     DNW_REASON_U8 = 33,                       /* a number of one octet, in decimal */
     DNW_REASON_U16 = 34,                      /* a number of two octets, in decimal */
@@ -661,8 +664,8 @@ enum dnw_zone_kind {
 #define DNW_ZONE_OCTETS_SIZE 65800
 
 /* Up to where a zone file was read or written, and what its entries so far say for later ones. dnw_zone_begin and
-   dnw_zone_include fill it in, and a caller only reads it, but for `fallback_ttl` and its flag, which a caller may set
-   before the first entry. It is plain data: it may be copied, and a copy put back, with the text after it, goes back.
+   dnw_zone_include fill it in, and a caller only reads it, but for `fallback_ttl`, its flag and `generate_limit`,
+   which a caller may set before the first entry. It is plain data: it may be copied, and a copy put back, with the text after it, goes back.
    Whatever it holds, no call does harm. */
 struct dnw_zone {
     size_t offset;        /* the octets of the file that were read */
@@ -671,10 +674,13 @@ struct dnw_zone {
     uint32_t default_ttl;  /* of $TTL, or the minimum of an SOA without a TTL, unless `has_default_ttl` is 0 */
     uint32_t last_ttl;     /* of the last record that has its own, unless `has_last_ttl` is 0 */
     uint32_t fallback_ttl; /* of records for which the file states none, unless `has_fallback_ttl` is 0 */
+    uint32_t generate_limit; /* how many records a $GENERATE may stand for, or 0 if it is an error */
+    uint32_t generate_next;  /* within a $GENERATE, the number of its next record, unless `has_generate_next` is 0 */
     uint16_t record_class;
     uint8_t has_default_ttl;
     uint8_t has_last_ttl;
     uint8_t has_fallback_ttl;
+    uint8_t has_generate_next;
     uint8_t origin_len;
     uint8_t owner_len; /* 0 before the first record */
     uint8_t origin[DNW_FORM_SIZE];
@@ -740,8 +746,12 @@ uint32_t dnw_zone_include(const uint8_t *origin, size_t origin_len, struct dnw_z
    `fallback_ttl`. For DNW_ZONE_INCLUDE the buffer has the wire form of the origin, and then the name of the
    file, without quotes and escapes. It has an octet, and no zero octet, is UTF-8 but for its escapes, and is not null-
    terminated; another name is DNW_REASON_NO_FILE. For DNW_ZONE_ERROR nothing is stored in the buffer, and `zone` is after
-   the line of the error: the next call goes on at the next entry, with what the entries before said. $GENERATE is an error.
+   the line of the error: the next call goes on at the next entry, with what the entries before said.
    dnw_text_fault_print has a sentence for `fault`.
+
+   A $GENERATE of BIND (its Administrator Reference Manual; no RFC has it) is the error DNW_REASON_GENERATE, unless
+   `generate_limit` of the state is set. Then each call stores one of its records, and `used` is 0 but for the last one, or
+   for an error: the next call has the same text. What is wrong of a template is at its offset.
 
    It fails with DNW_BAD_ITEM if the state is spoiled, so that its origin or its owner is not a wire form; with DNW_NO_ROOM if
    more than `octets_size` octets would be stored; and with DNW_NO_MEMORY. Then the same call may be made again. */

@@ -239,6 +239,7 @@ def read_zone(
     origin: NameLike,
     *,
     default_ttl: Optional[int] = None,
+    generate_limit: int = 0,
     folder: Optional[Path] = None,
     errors: Optional[Callable[[ZoneError], object]] = None,
 ) -> Iterator[Record]:
@@ -252,6 +253,8 @@ def read_zone(
 
     `$INCLUDE` is followed, up to ten files deep, and never into a file that is open already. Its file is looked for in the folder
     of the file that includes it. Of octets and of an open file, `folder` is that folder; without it, they include no file.
+
+    `$GENERATE`, an entry of BIND's that is in no RFC, is not valid, unless `generate_limit` is how many records it may stand for.
 
     Raises `ZoneError` at the first entry that is not valid. With `errors`, that is called with each error instead, and reading
     goes on at the next entry. Raises `OSError` if the file cannot be read.
@@ -267,6 +270,7 @@ def read_zone(
     check(library.dnw_zone_begin(wire, len(wire), byref(zone)))
     if default_ttl is not None:
         zone.fallback_ttl, zone.has_fallback_ttl = _checks.number("default_ttl", default_ttl, 2**31 - 1), 1
+    zone.generate_limit = _checks.number("generate_limit", generate_limit, 2**32 - 1)
     if isinstance(source, (str, os.PathLike)):
         path = os.fspath(source)
         name, within, stream = path, os.path.dirname(path), open(path, "rb", buffering=0)  # type: Tuple[str, Optional[str], BinaryIO]

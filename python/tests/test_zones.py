@@ -107,6 +107,19 @@ class Zones(unittest.TestCase):
         self.assertEqual(error_of(b"a 2147483648 A 192.0.2.1").reason, "the time is too large")
         self.assertRaises(ValueError, read_zone, b"", ".", default_ttl=2**31)
 
+    def test_generates(self):
+        # as named-compilezone (BIND 9.18)
+        zone = b"$TTL 60\na A 192.0.2.9\n$GENERATE 1-6/2 a${10,3} MX \"$ m${0,0,x}\"\nb A 192.0.2.1\n"
+        made = [f"a0{n + 10}.o. 60 IN MX {n} m{n}.o." for n in (1, 3, 5)]
+        self.assertEqual(lines(zone, "o.", generate_limit=3), ["a.o. 60 IN A 192.0.2.9", *made, "b.o. 60 IN A 192.0.2.1"])
+        self.assertRaises(dnw.ZoneError, lines, zone, "o.", generate_limit=2)
+        found = []
+        lines(zone + b"$GENERATE 1-300 c$ A 192.0.2.$", "o.", generate_limit=300, errors=found.append)
+        self.assertEqual([str(error) for error in found], ["<bytes>:5:20: wanted an IPv4 address (field 0)"])
+        reverse = lines(b"$GENERATE 16-17 ${0,4,n}0 7 PTR h$.", "ip6.arpa.", generate_limit=9)
+        self.assertEqual(reverse, ["0.1.0.ip6.arpa. 7 IN PTR h16.", "1.1.0.ip6.arpa. 7 IN PTR h17."])
+        self.assertRaises(ValueError, read_zone, b"", ".", generate_limit=-1)
+
     def test_open_files(self):
         zone = b"$TTL 1\na A 192.0.2.1\n" * 5000
         stream = gzip.GzipFile(fileobj=io.BytesIO(gzip.compress(zone)))

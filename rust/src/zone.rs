@@ -29,7 +29,8 @@ pub use writer::ZoneWriter;
 /// The entries of a zone file that is in memory: an iterator over its records and its `$INCLUDE`s.
 ///
 /// What an entry leaves out, its owner, TTL or class, is that of an entry before it. `$ORIGIN` and `$TTL` change what the
-/// entries after them mean, and are no items of their own. `$GENERATE` is an error.
+/// entries after them mean, and are no items of their own. `$GENERATE` is an error, unless
+/// [`generate_limit`](ZoneReader::generate_limit) is called.
 ///
 /// After an entry that is not valid, the iterator goes on at the next one. It ends after the last entry, or if memory runs
 /// out.
@@ -83,6 +84,27 @@ impl<'a> ZoneReader<'a> {
     /// ```
     pub fn default_ttl(mut self, ttl: u32) -> Self {
         self.entries.set_default_ttl(ttl);
+        self
+    }
+
+    /// Sets how many records a `$GENERATE` may stand for: an entry of BIND's, which is in no RFC. Each of them is an item. With
+    /// 0, and without a call, `$GENERATE` is an error.
+    ///
+    /// ```
+    /// use dns_names_wire::{ZoneItem, ZoneReader};
+    ///
+    /// let text = b"$TTL 1h\n$GENERATE 9-11 host-${0,2} A 192.0.2.$\n";
+    /// let mut owners = Vec::new();
+    /// for item in ZoneReader::new(text, &"example.".parse()?).generate_limit(100) {
+    ///     if let ZoneItem::Record(record) = item? {
+    ///         owners.push(record.owner().to_string());
+    ///     }
+    /// }
+    /// assert_eq!(owners, ["host-09.example.", "host-10.example.", "host-11.example."]);
+    /// # Ok::<(), Box<dyn std::error::Error>>(())
+    /// ```
+    pub fn generate_limit(mut self, limit: u32) -> Self {
+        self.entries.set_generate_limit(limit);
         self
     }
 
@@ -266,6 +288,11 @@ impl Entries {
     /// Sets the TTL of records for which the file states none.
     fn set_default_ttl(&mut self, ttl: u32) {
         self.zone.set_fallback_ttl(ttl);
+    }
+
+    /// Sets how many records a `$GENERATE` may stand for.
+    fn set_generate_limit(&mut self, limit: u32) {
+        self.zone.set_generate_limit(limit);
     }
 
     fn with_state(zone: ffi::Zone) -> Self {

@@ -64,6 +64,9 @@ reason_of_zone_rule rules.NoName = why.NoName
 reason_of_zone_rule rules.NoTime = why.NoTime
 reason_of_zone_rule rules.NoFile = why.NoFile
 reason_of_zone_rule rules.WordsLeft = why.WordsLeft
+reason_of_zone_rule rules.NoRange = why.NoRange
+reason_of_zone_rule rules.TooMany = why.TooMany
+reason_of_zone_rule rules.BadTemplate = why.BadTemplate
 
 -- where a text goes wrong by an error, or the failure if memory ran out
 abbrev pub fault_in : List ℕ → ZoneError → Result TextFault Failure

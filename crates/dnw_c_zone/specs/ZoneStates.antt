@@ -35,17 +35,21 @@ no_state = record {
   default_ttl = 0;
   last_ttl = 0;
   fallback_ttl = 0;
+  generate_limit = 0;
+  generate_next = 0;
   record_class = 0;
   has_default_ttl = 0;
   has_last_ttl = 0;
   has_fallback_ttl = 0;
+  has_generate_next = 0;
   origin_len = 0;
   owner_len = 0;
   origin = replicate 255 0;
   owner = replicate 255 0;
 }
 
--- The state that says at a place what the entries so far said. The octets after a name in its room are those of the state before.
+-- The state that says at a place what the entries so far said. The octets after a name in its room are those of the state before, and so
+-- is what it says of a `$GENERATE`.
 abbrev pub zone_state_of : ZoneState → Context → FilePlace → ZoneState
 zone_state_of before context at = record {
   offset = at.offset;
@@ -54,15 +58,22 @@ zone_state_of before context at = record {
   default_ttl = or_zero context.default_ttl;
   last_ttl = or_zero context.last_ttl;
   fallback_ttl = or_zero context.fallback_ttl;
+  generate_limit = before.generate_limit;
+  generate_next = before.generate_next;
   record_class = class_code context.class;
   has_default_ttl = has_number context.default_ttl;
   has_last_ttl = has_number context.last_ttl;
   has_fallback_ttl = has_number context.fallback_ttl;
+  has_generate_next = before.has_generate_next;
   origin_len = length (wire context.origin.labels);
   owner_len = length (owner_form context.owner);
   origin = put before.origin (wire context.origin.labels);
   owner = put before.owner (owner_form context.owner);
 }
+
+-- the state within a `$GENERATE`, of whose next record this is the number, or outside
+abbrev pub with_next : ZoneState → Option ℕ → ZoneState
+with_next zone next = record zone { generate_next = or_zero next; has_generate_next = has_number next }
 
 -- the place up to which a state has read
 abbrev pub place_of_state : ZoneState → FilePlace

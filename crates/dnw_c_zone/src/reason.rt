@@ -52,6 +52,12 @@ pub enum Reason {
     OtherType,
     /// A time has too many seconds.
     TimeTooLarge,
+    /// `$GENERATE` has no range.
+    NoRange,
+    /// `$GENERATE` stands for more records than the limit.
+    TooMany,
+    /// A template of `$GENERATE` has a `$` that stands for nothing.
+    BadTemplate,
     /// A name; one without a dot at its end if there is an origin.
     Name = 32,
     /// A number of one octet, in decimal.
@@ -165,6 +171,9 @@ macro_rules! reasons {
             UnknownType = 20, "the type is unknown";
             OtherType = 21, "no zone has records of this type";
             TimeTooLarge = 22, "the time is too large";
+            NoRange = 23, "no range is there";
+            TooMany = 24, "more records than the limit";
+            BadTemplate = 25, "wanted $ or ${offset,width,base}";
             Name = 32, "wanted a name";
             U8 = 33, "wanted a number of at most 255";
             U16 = 34, "wanted a number of at most 65535";

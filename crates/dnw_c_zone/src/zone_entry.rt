@@ -326,5 +326,8 @@ fn reason_of_zone_rule(rule: ZoneRule) -> Reason
         ZoneRule::NoTime => Reason::NoTime,
         ZoneRule::NoFile => Reason::NoFile,
         ZoneRule::WordsLeft => Reason::WordsLeft,
+        ZoneRule::NoRange => Reason::NoRange,
+        ZoneRule::TooMany => Reason::TooMany,
+        ZoneRule::BadTemplate => Reason::BadTemplate,
     }
 }

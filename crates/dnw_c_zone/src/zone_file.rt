@@ -3,19 +3,23 @@ ghost use Rattle.std.specs.Prelude.{◌≡◌, IfOk, IfErr};
 ghost use Rattle.dnw_c_base.specs.Results.{Returns};
 ghost use Rattle.dnw_c_zone.specs.Inside.StateNames.{KeepsNames};
 ghost use Rattle.dnw_c_zone.specs.Inside.StateResults.{with_entry, with_state};
-ghost use Rattle.dnw_c_zone.specs.ZoneFileCalls.{BeginsZone, IncludesFile, IsGivenOrigin, LacksOrigin, TakesZoneEntry};
+ghost use Rattle.dnw_c_zone.specs.ZoneFileCalls.{BeginsZone, IncludesFile, IsGivenOrigin, LacksOrigin, TakesGenerated, TakesZoneEntry, is_generated};
+ghost use Rattle.dnw_c_zone.specs.ZoneStates.{time_of};
+ghost use Rattle.dnw_zone_file.specs.Generates.{IsGeneratedStep};
 ghost use Rattle.dnw_zone_file.specs.Steps.{IsStep};
 
 use crate::parsing::origin_of;
 use crate::zone_entry::{ZoneEntry, put_found};
 use crate::zone_place::{FilePlace, moved};
 use crate::zone_state::{
-    ZoneState, context_of, fill_context, move_state, no_state, place_of_state, zone_state_of,
+    ZoneState, context_of, fill_context, move_state, no_state, place_of_state, put_next, time_of,
+    zone_state_of,
 };
 use dnw_c_base::failure::Failure;
 use dnw_c_base::results::report;
 use dnw_name::name::Name;
 use dnw_zone_file::context::Context;
+use dnw_zone_file::generate::{Generated, is_generate, take_generated};
 use dnw_zone_file::step::{Step, take_entry};
 use std::alloc::Global;
 
@@ -108,6 +112,9 @@ fn next(
     }
     let at = place_of_state(zone);
     let step = step_of(alloc, &mut context, text, more);
+    if is_generated(zone, &step) {
+        return next_generated(alloc, &mut context, text, step.used, zone, octets, entry);
+    }
     match put_found(alloc, at, text, &context, &step, octets, entry) {
         Ok(()) => {
             move_state(zone, &context, moved(at, text, step.used), &step.found);
@@ -115,6 +122,62 @@ fn next(
         }
         Err(failure) => Err(failure),
     }
+}
+
+/// Returns `true` if a step is a `$GENERATE`, and the caller wants it to be read.
+fn is_generated(zone: &ZoneState, step: &Step) -> bool
+    ensures { result ≡ is_generated zone.now step.now }
+{
+    0 < zone.generate_limit && is_generate(step)
+}
+
+/// Puts the next record of the `$GENERATE` that a text begins with, which takes so many octets, stores what C learns of it, and moves on.
+/// If it fails, the entry and the state are unchanged.
+fn next_generated(
+    alloc: Global,
+    context: &mut Context,
+    text: &[u8],
+    used: usize,
+    zone: &mut ZoneState,
+    octets: &mut [u8],
+    entry: &mut ZoneEntry,
+) -> Result<(), Failure>
+    ensures takes { TakesGenerated zone.old context.old text.now used octets.old octets.new (with_state (with_entry result entry.new) zone.new) }
+    ensures same { IfErr result (λ _. (entry.new ≡ entry.old) × (zone.new ≡ zone.old)) }
+{
+    let at = place_of_state(zone);
+    let made = next_of(alloc, context, text, used, zone);
+    match put_found(alloc, at, text, context, &made.step, octets, entry) {
+        Ok(()) => {
+            *zone = zone_state_of(zone, context, moved(at, text, made.step.used));
+            put_next(zone, made.next);
+            Ok(())
+        }
+        Err(failure) => Err(failure),
+    }
+}
+
+/// Takes the next record of the `$GENERATE` that a text begins with.
+fn next_of(
+    alloc: Global,
+    context: &mut Context,
+    text: &[u8],
+    used: usize,
+    zone: &ZoneState,
+) -> Generated
+    ensures { IsGeneratedStep context.old text.now used zone.now.generate_limit (time_of zone.now.has_generate_next zone.now.generate_next) result.step result.next context.new }
+{
+    let number = time_of(zone.has_generate_next, zone.generate_next);
+    let mut line = Vec::new(alloc);
+    take_generated(
+        alloc,
+        context,
+        text,
+        used,
+        zone.generate_limit,
+        number,
+        &mut line,
+    )
 }
 
 /// Takes what a text begins with, after the entries that made the context. What it does not change of the names stays in the context.

@@ -4,7 +4,7 @@ ghost use Rattle.dnw_base.specs.Limits.{max_name};
 ghost use Rattle.dnw_base.specs.Names.{wire};
 ghost use Rattle.dnw_c_zone.specs.Inside.StateNames.{IsNoStateName, IsOwnerForm, KeepsNames, LacksStateName, NamesFit, changes_origin, changes_owner, with_state_numbers, with_origin_form, with_owner_form};
 ghost use Rattle.dnw_c_zone.specs.ParseCalls.{IsOrigin};
-ghost use Rattle.dnw_c_zone.specs.ZoneStates.{IsContextOf, LacksContext, has_number, no_state, or_zero, owner_form, place_of_state, zone_state_of, time_of};
+ghost use Rattle.dnw_c_zone.specs.ZoneStates.{IsContextOf, LacksContext, has_number, no_state, or_zero, owner_form, place_of_state, with_next, zone_state_of, time_of};
 ghost use Rattle.dnw_name_read.specs.Buffers.{put};
 ghost use Rattle.dnw_zone_file.specs.declared.context.Context.{Context};
 
@@ -40,6 +40,10 @@ pub struct ZoneState {
     pub last_ttl: u32,
     /// The time to live of records for which the file states none. The caller may set it.
     pub fallback_ttl: u32,
+    /// How many records a `$GENERATE` may stand for, or 0 if it is not read. The caller may set it.
+    pub generate_limit: u32,
+    /// Within a `$GENERATE`, the number of its next record.
+    pub generate_next: u32,
     /// The last class of a record that has one of its own, or else `IN`.
     pub record_class: u16,
     /// 0 if there is no `default_ttl`.
@@ -48,6 +52,8 @@ pub struct ZoneState {
     pub has_last_ttl: u8,
     /// 0 if there is no `fallback_ttl`.
     pub has_fallback_ttl: u8,
+    /// 0 outside of a `$GENERATE`.
+    pub has_generate_next: u8,
     /// The number of octets of the origin.
     pub origin_len: u8,
     /// The number of octets of the owner of the last record, or 0 if there is none.
@@ -69,10 +75,13 @@ pub(crate) fn no_state() -> ZoneState
         default_ttl: 0,
         last_ttl: 0,
         fallback_ttl: 0,
+        generate_limit: 0,
+        generate_next: 0,
         record_class: 0,
         has_default_ttl: 0,
         has_last_ttl: 0,
         has_fallback_ttl: 0,
+        has_generate_next: 0,
         origin_len: 0,
         owner_len: 0,
         origin: [0; MAX_NAME],
@@ -313,6 +322,14 @@ fn or_zero(number: Option<u32>) -> u32
     }
 }
 
+/// Puts the number of the next record of a `$GENERATE`, or none.
+pub(crate) fn put_next(zone: &mut ZoneState, next: Option<u32>)
+    ensures { zone.new ≡ with_next zone.old next }
+{
+    zone.generate_next = or_zero(next);
+    zone.has_generate_next = has_number(next);
+}
+
 /// Returns 1 if there is a number, and else 0.
 fn has_number(number: Option<u32>) -> u8
     ensures { result ≡ has_number number }
@@ -324,7 +341,7 @@ fn has_number(number: Option<u32>) -> u8
 }
 
 /// Returns a number, or none if a flag is 0.
-fn time_of(flag: u8, number: u32) -> Option<u32>
+pub(crate) fn time_of(flag: u8, number: u32) -> Option<u32>
     ensures { result ≡ time_of flag number }
 {
     if flag == 0 { None } else { Some(number) }

@@ -48,6 +48,7 @@ A zone file is shown as one line a record, with nothing left out. If an entry is
 are shown instead, as FILE:LINE:COLUMN, with the line and a mark. Names without a dot at their end
 are below the NAME of --origin.
   --ttl=SECONDS  the time to live of records for which the file states none
+  --generate-limit=NUMBER  how many records a $GENERATE may stand for, which else is an error
   --sort      canonical order: by owner, type and data (RFC 4034, section 6)
   --relative  a zone file, which leaves out what its $ORIGIN, $TTL and the last owner say
   --wire      one line a record: its wire form without compression (RFC 1035, section 4.1.3), in

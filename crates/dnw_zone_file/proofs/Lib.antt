@@ -11,3 +11,5 @@ pub mod ShortNames
 pub mod ShortLinesRead
 pub mod WrittenTexts
 pub mod OwnOwners
+pub mod Templates
+pub mod Generated

@@ -2,3 +2,4 @@ pub mod Adding
 pub mod ShortTexts
 pub mod PlaceLines
 pub mod OwnOwners
+pub mod Making

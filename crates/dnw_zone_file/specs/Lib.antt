@@ -2,6 +2,8 @@ pub mod Contexts
 pub mod Directives
 pub mod Heads
 pub mod Entries
+pub mod Templates
+pub mod Generates
 pub mod Steps
 pub mod Places
 pub mod ZoneTexts

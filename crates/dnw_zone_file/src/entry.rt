@@ -159,7 +159,7 @@ fn owned_first(
 }
 
 /// Returns `true` if a text begins with an octet.
-fn begins_with(text: &[u8], octet: u8) -> bool
+pub(crate) fn begins_with(text: &[u8], octet: u8) -> bool
     ensures { result ≡ begins_with octet text.now }
 {
     match text.first() {
@@ -180,7 +180,7 @@ pub(crate) fn owner_before(context: &Context) -> Option<WireForm>
 
 /// Returns the owner that a word is, if it is one. Its wire form is put in a room. A quoted string is none.
 #[tactic(auto, using(crate::proofs::OwnOwners::form_of_name, crate::proofs::OwnOwners::owner_named))]
-fn own_owner<'r>(
+pub(crate) fn own_owner<'r>(
     alloc: Global,
     room: &'r mut [u8; MAX_NAME],
     origin: &Name,
@@ -223,7 +223,7 @@ fn put_other(alloc: Global, room: &mut [u8; MAX_NAME], origin: &Name, word: &[u8
 }
 
 /// Returns the record of an owner, of which the text has the rest, and which is what is left of an entry of this length.
-fn record_of(
+pub(crate) fn record_of(
     alloc: Global,
     context: &mut Context,
     owner: WireLabels<'_>,

@@ -48,6 +48,15 @@ pub enum ZoneRule {
     /// Nothing more is in the entry.
     #[error("more words are there")]
     WordsLeft,
+    /// `$GENERATE` has a range, as `1-10` or `0-100/2`.
+    #[error("no range is there")]
+    NoRange,
+    /// `$GENERATE` stands for no more records than the caller allows.
+    #[error("more records than the limit")]
+    TooMany,
+    /// A `$` of a template is alone, or before `{offset,width,base}`.
+    #[error("wanted $ or ${{offset,width,base}}")]
+    BadTemplate,
 }
 
 /// Why an entry is none, and where.

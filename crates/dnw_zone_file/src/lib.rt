@@ -15,6 +15,10 @@ pub mod error;
 pub mod directive;
 /// The time to live, the class and the type of a record.
 pub mod head;
+/// What the templates of `$GENERATE` make.
+pub mod template;
+/// `$GENERATE`, which stands for many records.
+pub mod generate;
 /// Entries of a text, one after the other.
 pub mod step;
 /// Lines and columns of texts.

@@ -67,7 +67,10 @@ pub fn take_entry(
 
 /// Returns the line of the entry that a text begins with, and how it ends. A line with comments or parentheses is put in place of `line`.
 #[inline(always)]
-fn line_in<'t>(text: &'t [u8], line: &'t mut Vec<u8>) -> Result<(&'t [u8], Ending), AllocError>
+pub(crate) fn line_in<'t>(
+    text: &'t [u8],
+    line: &'t mut Vec<u8>,
+) -> Result<(&'t [u8], Ending), AllocError>
     ensures line { IfOk result (λ r. line_of text.now ≡ (r.0.now, r.1)) }
     ensures within { IfOk result (λ r. length r.0.now ≤ length text.now) }
     ensures ended { IfOk result (λ r. r.1 ≡ Line → length r.0.now < length text.now) }

@@ -24,10 +24,13 @@ pub(crate) struct Zone {
     default_ttl: u32,
     last_ttl: u32,
     fallback_ttl: u32,
+    generate_limit: u32,
+    generate_next: u32,
     record_class: u16,
     has_default_ttl: u8,
     has_last_ttl: u8,
     has_fallback_ttl: u8,
+    has_generate_next: u8,
     origin_len: u8,
     owner_len: u8,
     origin: [u8; FORM_SIZE],
@@ -38,6 +41,11 @@ impl Zone {
     /// Sets the TTL of records for which the file states none.
     pub(crate) fn set_fallback_ttl(&mut self, ttl: u32) {
         (self.fallback_ttl, self.has_fallback_ttl) = (ttl, 1);
+    }
+
+    /// Sets how many records a `$GENERATE` may stand for.
+    pub(crate) fn set_generate_limit(&mut self, limit: u32) {
+        self.generate_limit = limit;
     }
 
     /// Returns the offset of the next entry in the file, its line and its column.
@@ -97,10 +105,13 @@ pub(crate) fn begin_zone(origin: &[u8]) -> Result<Zone, Error> {
         default_ttl: 0,
         last_ttl: 0,
         fallback_ttl: 0,
+        generate_limit: 0,
+        generate_next: 0,
         record_class: 0,
         has_default_ttl: 0,
         has_last_ttl: 0,
         has_fallback_ttl: 0,
+        has_generate_next: 0,
         origin_len: 0,
         owner_len: 0,
         origin: [0; FORM_SIZE],

@@ -91,6 +91,13 @@ impl ZoneFile {
         ZoneFile { files: self.files.into_iter().map(first).collect(), ..self }
     }
 
+    /// Sets how many records a `$GENERATE` may stand for, as
+    /// [`ZoneReader::generate_limit`](crate::ZoneReader::generate_limit) does. It is called before the first record is taken.
+    pub fn generate_limit(self, limit: u32) -> Self {
+        let first = |file: OpenFile| OpenFile { entries: file.entries.generate_limit(limit), ..file };
+        ZoneFile { files: self.files.into_iter().map(first).collect(), ..self }
+    }
+
     /// Looks for all files of `$INCLUDE` in this folder, and not in that of the file that includes them. An empty path is the
     /// working directory.
     pub fn include_from(self, folder: impl Into<PathBuf>) -> Self {

@@ -61,6 +61,13 @@ impl<R> ZoneStream<R> {
         self
     }
 
+    /// Sets how many records a `$GENERATE` may stand for, as
+    /// [`ZoneReader::generate_limit`](crate::ZoneReader::generate_limit) does.
+    pub fn generate_limit(mut self, limit: u32) -> Self {
+        self.entries.set_generate_limit(limit);
+        self
+    }
+
     /// Returns an iterator over the entries of the file that the last item, an `$INCLUDE`, names, as
     /// [`ZoneReader::include`](crate::ZoneReader::include) does.
     pub fn include<S>(&self, source: S, origin: &Name) -> ZoneStream<S> {

@@ -18,9 +18,10 @@ use std::rt::Files;
 const MAX_TTL: u32 = 0x7fff_ffff;
 
 /// The options of `dnw zone`.
-const OPTIONS: [Known; 6] = [
+const OPTIONS: [Known; 7] = [
     Known::Valued("--origin", "NAME"),
     Known::Valued("--ttl", "SECONDS"),
+    Known::Valued("--generate-limit", "NUMBER"),
     Known::Flag("--sort"),
     Known::Flag("--relative"),
     Known::Flag("--wire"),
@@ -60,6 +61,7 @@ fn wanted_of(alloc: Global, given: &Given<'_>) -> Result<Wanted, Refusal> {
         form,
         is_sorted: given.has("--sort"),
         ttl: ttl_of(alloc, given)?,
+        generate_limit: generate_limit_of(alloc, given)?,
     })
 }
 
@@ -71,6 +73,17 @@ fn ttl_of(alloc: Global, given: &Given<'_>) -> Result<Option<u32>, Refusal> {
     match parse_u32(word) {
         Ok(ttl) if ttl <= MAX_TTL => Ok(Some(ttl)),
         _ => Err(Misuse::wrong(alloc, "a number of at most 2147483647", word)),
+    }
+}
+
+/// How many records `--generate-limit` allows a `$GENERATE`, which is an error without it.
+fn generate_limit_of(alloc: Global, given: &Given<'_>) -> Result<u32, Refusal> {
+    let Some(word) = given.value("--generate-limit") else {
+        return Ok(0);
+    };
+    match parse_u32(word) {
+        Ok(limit) => Ok(limit),
+        Err(_) => Err(Misuse::wrong(alloc, "a number of at most 4294967295", word)),
     }
 }
 
@@ -95,6 +108,7 @@ pub(crate) fn digest<E: Files, I: Read, P: Watch>(
         form: Form::Lines,
         is_sorted: false,
         ttl: None,
+        generate_limit: 0,
     };
     let lines = listing(env, alloc, file, apex, wanted, zone, watch)?;
     digest_of(alloc, apex, lines.as_str(), algorithm)

@@ -1,6 +1,5 @@
 //! Files that zone files include (RFC 1035, section 5.1).
 
-use crate::zones::source::Source;
 use dns_names_wire::field_text::{FieldTextError, parse_text};
 use dns_names_wire::zone::{Context, Include};
 use std::alloc::{AllocError, Global};
@@ -47,17 +46,16 @@ impl From<AllocError> for IncludeError {
     }
 }
 
-/// Opens the file of an `$INCLUDE`, which is in the text of this file. A relative path begins in the folder of that file. The
-/// entries that come next have what the context says, and the origin of the `$INCLUDE`. So many files are open already.
+/// Returns the path and the octets of the file of an `$INCLUDE`, which is in the text of this file. A relative path begins in the folder
+/// of that file. So many files are open already.
 pub(crate) fn open<E: Files>(
     env: &E,
     alloc: Global,
     file: &str,
     text: &[u8],
-    context: &Context,
     include: &Include,
     depth: usize,
-) -> Result<Source, IncludeError> {
+) -> Result<(String, Vec<u8>), IncludeError> {
     if file == "-" {
         return Err(IncludeError::StandardInput);
     }
@@ -66,7 +64,7 @@ pub(crate) fn open<E: Files>(
     }
     let name = name_of(alloc, file, word_of(text, include))?;
     match octets_of(env, alloc, name.as_str()) {
-        Ok(Some(octets)) => Ok(Source::new(name, octets, context_of(context, include))),
+        Ok(Some(octets)) => Ok((name, octets)),
         Ok(None) => Err(IncludeError::NotPlain(name)),
         Err(error) => Err(IncludeError::Unread { file: name, error }),
     }
@@ -111,8 +109,8 @@ fn octets_of<E: Files>(env: &E, alloc: Global, file: &str) -> io::Result<Option<
     Ok(Some(octets))
 }
 
-/// Returns what the entries before a file say for its entries.
-fn context_of(context: &Context, include: &Include) -> Context {
+/// Returns what the entries before the file of an `$INCLUDE` say for its entries, with the origin of the `$INCLUDE`.
+pub(crate) fn context_of(context: &Context, include: &Include) -> Context {
     let owner = match &context.owner {
         Some(owner) => Some(owner.clone()),
         None => None,

@@ -24,7 +24,8 @@ pub(crate) fn listing<E: Files, P: Watch>(
     let records = Listed::new(alloc, wanted, Context::new(origin.copied()));
     let mut context = Context::new(origin);
     context.fallback_ttl = wanted.ttl;
-    let first = Source::new(String::from_str(alloc, file)?, text, context);
+    let name = String::from_str(alloc, file)?;
+    let first = Source::new(name, text, context, wanted.generate_limit);
     let mut reading = Reading::new(alloc, records);
     reading.open(first)?;
     reading.read(env, alloc, watch)?;

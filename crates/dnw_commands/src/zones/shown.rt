@@ -31,6 +31,8 @@ pub(crate) struct Wanted {
     pub(crate) is_sorted: bool,
     /// The time to live of records for which the file states none.
     pub(crate) ttl: Option<u32>,
+    /// How many records a `$GENERATE` may stand for, or 0 if it is an error.
+    pub(crate) generate_limit: u32,
 }
 
 /// The records of a zone, shown, or kept until all are there.

@@ -5,7 +5,9 @@ use crate::zones::faults::{Fault, moved};
 use crate::zones::includes;
 use crate::zones::kept::Place;
 use crate::zones::lines::Lines;
-use dns_names_wire::zone::{Context, Entry, Found, Include, TextPlace, ZoneError, take_entry};
+use dns_names_wire::zone::{
+    Context, Entry, Found, Include, TextPlace, ZoneError, is_generate, take_entry, take_generated,
+};
 use std::alloc::Global;
 use std::rt::Files;
 
@@ -24,6 +26,10 @@ pub(crate) struct Source {
     place: TextPlace,
     /// What the entries that are read say for the next one.
     context: Context,
+    /// How many records a `$GENERATE` may stand for, or 0 if it is an error.
+    generate_limit: u32,
+    /// Within a `$GENERATE`, the number of its next record.
+    generate_next: Option<u32>,
 }
 
 /// What comes next.
@@ -39,7 +45,7 @@ pub(crate) enum Next {
 
 impl Source {
     /// Creates a file of which nothing is read.
-    pub(crate) fn new(name: String, text: Vec<u8>, context: Context) -> Self {
+    pub(crate) fn new(name: String, text: Vec<u8>, context: Context, generate_limit: u32) -> Self {
         Source {
             name,
             number: 0,
@@ -47,6 +53,8 @@ impl Source {
             used: 0,
             place: TextPlace { line: 0, column: 0 },
             context,
+            generate_limit,
+            generate_next: None,
         }
     }
 
@@ -59,7 +67,22 @@ impl Source {
         lines: &mut Lines,
     ) -> Result<Next, Refusal> {
         let text = self.text.as_slice().get(self.used..).unwrap_or_default();
-        let step = take_entry(alloc, &mut self.context, text, false, &mut lines.line);
+        let mut step = take_entry(alloc, &mut self.context, text, false, &mut lines.line);
+        if 0 < self.generate_limit && is_generate(&step) {
+            let (limit, number) = (self.generate_limit, self.generate_next);
+            let line = &mut lines.line;
+            let made = take_generated(
+                alloc,
+                &mut self.context,
+                text,
+                step.used,
+                limit,
+                number,
+                line,
+            );
+            self.generate_next = made.next;
+            step = made.step;
+        }
         let at = At {
             context: &self.context,
             fault: Fault {
@@ -69,6 +92,7 @@ impl Source {
             },
             number: self.number,
             depth,
+            generate_limit: self.generate_limit,
         };
         let next = match &step.found {
             Ok(found) => at.add(env, alloc, found, lines),
@@ -91,6 +115,8 @@ struct At<'a> {
     number: usize,
     /// How many files are open.
     depth: usize,
+    /// How many records a `$GENERATE` may stand for.
+    generate_limit: u32,
 }
 
 impl At<'_> {
@@ -139,8 +165,12 @@ impl At<'_> {
         errors: &mut String,
     ) -> Result<Next, Refusal> {
         let Fault { file, text, .. } = self.fault;
-        match includes::open(env, alloc, file, text, self.context, include, self.depth) {
-            Ok(source) => Ok(Next::Source(source)),
+        match includes::open(env, alloc, file, text, include, self.depth) {
+            Ok((name, octets)) => {
+                let context = includes::context_of(self.context, include);
+                let source = Source::new(name, octets, context, self.generate_limit);
+                Ok(Next::Source(source))
+            }
             Err(error) => {
                 let reason = format!(in alloc; "{error}")?;
                 self.fault.put(include.file, reason.as_str(), errors)?;

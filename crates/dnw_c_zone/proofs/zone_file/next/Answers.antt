@@ -1,6 +1,7 @@
-use Rattle.std.proofs.Common.{◌≡◌, take, inl, ap, ◌∙◌}
+use Rattle.std.proofs.Common.{◌≡◌, false, take, inl, sym, ap, ◌∙◌}
 use Rattle.std.specs.Prelude.{Ok}
 use Rattle.dnw_c_zone.specs.ZoneEntries.{PutsFound}
+use Rattle.dnw_c_zone.specs.ZoneFileCalls.{is_generated}
 use Rattle.dnw_c_zone.specs.ZonePlaces.{moved}
 use Rattle.dnw_c_zone.specs.ZoneStates.{place_of_state, zone_state_of}
 use Rattle.dnw_c_zone.specs.declared.zone_place.FilePlace.{FilePlace}
@@ -15,5 +16,6 @@ returns-in-Ok-clause-takes c =
     rw (← c.place_of_state-at.ensures) c.in-Ok.ensures.puts in
     let at : c.moved.result ≡ moved (place_of_state c.args.zone.now) (take step.used c.args.text.now) =
     c.moved.ensures ∙ ap (λ (p : FilePlace). moved p (take step.used c.args.text.now)) c.place_of_state-at.ensures in
+    let other : is_generated c.args.zone.now step ≡ false = sym c.is_generated.ensures ∙ c.if-is_generated.false in
     let state = c.move_state.ensures c.fill_context.new.context known c.step_of-step.ensures.keeps in
-    inl (c.fill_context.new.context, after, step, known, c.step_of-step.ensures.is, (puts, state ∙ ap (zone_state_of c.args.zone.now after) at))
+    inl (c.fill_context.new.context, after, step, known, c.step_of-step.ensures.is, rw other (puts, state ∙ ap (zone_state_of c.args.zone.now after) at))
