@@ -119,7 +119,7 @@ def functions():
     """The functions of the header, each with its parameters."""
     text = re.sub(r"/\*.*?\*/", "", HEADER.read_text(), flags=re.S)
     for name, listed in re.findall(r"\b(dnw_\w+)\(([^;{]*?)\);", text, re.S):
-        parameters = [Parameter(" ".join(it.split())) for it in listed.split(",")]
+        parameters = [Parameter(" ".join(it.split())) for it in listed.split(",") if it != "void"]
         for pointer, number in zip(parameters, parameters[1:]):
             pointer.has_length = number.follows(pointer)
         yield name, parameters

@@ -656,6 +656,11 @@ static void tells_failures(void)
     EXPECT(dnw_error_text(UINT32_MAX, buffer, sizeof buffer) == 0);
 }
 
+static void is_of_this_version(void)
+{
+    EXPECT(dnw_version() == DNW_VERSION);
+}
+
 /* Without memory, what does not allocate succeeds, and what allocates says so and writes nothing. */
 static void lacks_memory(void)
 {
@@ -749,6 +754,7 @@ int main(void)
     refuses_tokens();
     long_tokens();
     tells_failures();
+    is_of_this_version();
     lacks_memory();
     return 0;
 }

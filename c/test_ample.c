@@ -311,7 +311,7 @@ static void prints_and_parses(uint16_t record_type, size_t data_len, bool data_a
     size_t at = 0;
     for (int spaces = 0; spaces < 4 && at < printed.len; at++)
         spaces += text[at] == ' ';
-    EXPECT(dnw_data_parse(1, record_type, text + at, printed.len - at, text, 0, output, sizeof output, &len) == DNW_DONE);
+    EXPECT(dnw_data_parse(record_type, 1, text + at, printed.len - at, text, 0, output, sizeof output, &len) == DNW_DONE);
     EXPECT(len == data_len && memcmp(output, input + record.data_offset, len) == 0);
 }
 
@@ -417,7 +417,7 @@ static void parses_data(size_t size)
     input_len = 0;
     fill(' ', size);
     put("192.0.2.1", 9);
-    EXPECT(dnw_data_parse(1, DNW_TYPE_A, input, input_len, input, 0, output, sizeof output, &len) == DNW_DONE && len == 4);
+    EXPECT(dnw_data_parse(DNW_TYPE_A, 1, input, input_len, input, 0, output, sizeof output, &len) == DNW_DONE && len == 4);
 }
 
 static void finds_record_faults(size_t size)
@@ -439,7 +439,7 @@ static void finds_data_faults(size_t size)
     input_len = 0;
     fill(' ', size);
     put("192.0.2", 7);
-    EXPECT(dnw_data_text_fault(1, DNW_TYPE_A, input, input_len, input, 0, &fault) == DNW_DONE && fault.reason == DNW_REASON_IPV4);
+    EXPECT(dnw_data_text_fault(DNW_TYPE_A, 1, input, input_len, input, 0, &fault) == DNW_DONE && fault.reason == DNW_REASON_IPV4);
     EXPECT(fault.offset == size && fault.len == 7);
 }
 

@@ -145,9 +145,9 @@ static void prints_and_parses(uint16_t record_type)
     /* after the owner, the time to live, the class and the type */
     for (int spaces = 0; spaces < 4 && at < printed.len; at++)
         spaces += line[at] == ' ';
-    EXPECT(dnw_data_parse(1, record_type, line + at, printed.len - at, line, 0, output, sizeof output, &len) == DNW_DONE);
+    EXPECT(dnw_data_parse(record_type, 1, line + at, printed.len - at, line, 0, output, sizeof output, &len) == DNW_DONE);
     EXPECT(is_output(data, data_len, len));
-    EXPECT(dnw_data_text_fault(1, record_type, line + at, printed.len - at, line, 0, &fault) == DNW_DONE);
+    EXPECT(dnw_data_text_fault(record_type, 1, line + at, printed.len - at, line, 0, &fault) == DNW_DONE);
     EXPECT(fault.reason == DNW_REASON_NONE);
 }
 

@@ -232,7 +232,7 @@ static uint32_t next_field(const uint8_t *octets, size_t len, uint16_t type, str
 {
     const struct dnw_fields before = *fields;
     *field = (struct dnw_field){7, 7, 7};
-    uint32_t answer = dnw_field_next(octets, len, 0, DNW_CLASS_IN, type, fields, field);
+    uint32_t answer = dnw_field_next(octets, len, 0, type, DNW_CLASS_IN, fields, field);
     if (answer != DNW_DONE) {
         EXPECT(fields->offset == before.offset && fields->number == before.number);
         EXPECT(field->kind == 7 && field->offset == 7 && field->len == 7);
@@ -292,18 +292,18 @@ static void reads_fields(void)
     EXPECT(next_field(BYTES("\201"), 38, &fields, &field) == DNW_BAD_FAMILY);
     /* CH A a. 1 (RFC 1035, section 3.6); A is octets in HS, and may be left out under ANY and NONE (RFC 2136, section 2.4) */
     fields = (struct dnw_fields){0, 0};
-    EXPECT(dnw_field_next(BYTES("\001a\000\000\001"), 0, DNW_CLASS_CH, DNW_TYPE_A, &fields, &field) == DNW_DONE);
+    EXPECT(dnw_field_next(BYTES("\001a\000\000\001"), 0, DNW_TYPE_A, DNW_CLASS_CH, &fields, &field) == DNW_DONE);
     EXPECT(is_field(&field, DNW_FIELD_NAME, 0, 3));
-    EXPECT(dnw_field_next(BYTES("\001a\000\000\001"), 0, DNW_CLASS_CH, DNW_TYPE_A, &fields, &field) == DNW_DONE);
+    EXPECT(dnw_field_next(BYTES("\001a\000\000\001"), 0, DNW_TYPE_A, DNW_CLASS_CH, &fields, &field) == DNW_DONE);
     EXPECT(is_field(&field, DNW_FIELD_NUMBER, 3, 2));
     fields = (struct dnw_fields){0, 0};
-    EXPECT(dnw_field_next(BYTES("\300"), 0, DNW_CLASS_HS, DNW_TYPE_A, &fields, &field) == DNW_DONE);
+    EXPECT(dnw_field_next(BYTES("\300"), 0, DNW_TYPE_A, DNW_CLASS_HS, &fields, &field) == DNW_DONE);
     EXPECT(is_field(&field, DNW_FIELD_OCTETS, 0, 1));
     fields = (struct dnw_fields){1, 0};
-    EXPECT(dnw_field_next(BYTES("?"), 1, DNW_CLASS_ANY, DNW_TYPE_A, &fields, &field) == DNW_DONE && field.kind == DNW_FIELD_END);
-    EXPECT(dnw_field_next(BYTES("?"), 1, DNW_CLASS_NONE, DNW_TYPE_MX, &fields, &field) == DNW_DONE && field.kind == DNW_FIELD_END);
-    EXPECT(dnw_field_next(BYTES("?"), 1, DNW_CLASS_IN, DNW_TYPE_A, &fields, &field) == DNW_MESSAGE_CUT);
-    EXPECT(dnw_field_next(BYTES("?"), 2, DNW_CLASS_ANY, DNW_TYPE_A, &fields, &field) == DNW_MESSAGE_CUT);
+    EXPECT(dnw_field_next(BYTES("?"), 1, DNW_TYPE_A, DNW_CLASS_ANY, &fields, &field) == DNW_DONE && field.kind == DNW_FIELD_END);
+    EXPECT(dnw_field_next(BYTES("?"), 1, DNW_TYPE_MX, DNW_CLASS_NONE, &fields, &field) == DNW_DONE && field.kind == DNW_FIELD_END);
+    EXPECT(dnw_field_next(BYTES("?"), 1, DNW_TYPE_A, DNW_CLASS_IN, &fields, &field) == DNW_MESSAGE_CUT);
+    EXPECT(dnw_field_next(BYTES("?"), 2, DNW_TYPE_A, DNW_CLASS_ANY, &fields, &field) == DNW_MESSAGE_CUT);
     /* a type without fields */
     fields = (struct dnw_fields){1, 0};
     EXPECT(next_field(BYTES("abc"), 65280, &fields, &field) == DNW_DONE && is_field(&field, DNW_FIELD_OCTETS, 1, 2));

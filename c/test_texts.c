@@ -74,7 +74,7 @@ static uint32_t parse(struct input input, size_t size, size_t *len)
     *len = 7;
     uint32_t answer = input.type == 0
                           ? dnw_record_parse(line, strlen(input.text), origin, input.origin_len, text, size, len)
-                          : dnw_data_parse(DNW_CLASS_IN, input.type, line, strlen(input.text), origin, input.origin_len, text, size, len);
+                          : dnw_data_parse(input.type, DNW_CLASS_IN, line, strlen(input.text), origin, input.origin_len, text, size, len);
     if (answer != DNW_DONE)
         EXPECT(text[0] == '?' && *len == 7);
     else
@@ -115,7 +115,7 @@ static bool goes_wrong(struct input input, size_t offset, size_t len, size_t fie
     if (input.type == 0)
         EXPECT(dnw_record_text_fault(line, strlen(input.text), origin, input.origin_len, &fault) == DNW_DONE);
     else
-        EXPECT(dnw_data_text_fault(DNW_CLASS_IN, input.type, line, strlen(input.text), origin, input.origin_len, &fault) == DNW_DONE);
+        EXPECT(dnw_data_text_fault(input.type, DNW_CLASS_IN, line, strlen(input.text), origin, input.origin_len, &fault) == DNW_DONE);
     EXPECT((parse(input, sizeof text - 1, &put) == DNW_DONE) == (reason == DNW_REASON_NONE));
     return fault.offset == offset && fault.len == len && fault.field == field && fault.reason == reason;
 }
@@ -319,13 +319,13 @@ static void refuses_long_data(void)
     memset(digits, 'A', sizeof digits);
     memcpy(digits, "0 0 0 ", 6);
     memset(data, '?', sizeof data);
-    EXPECT(dnw_data_parse(DNW_CLASS_IN, DNW_TYPE_TLSA, digits, 6 + 2 * 65533, BYTES(""), data, sizeof data, &len) == DNW_BAD_DATA);
+    EXPECT(dnw_data_parse(DNW_TYPE_TLSA, DNW_CLASS_IN, digits, 6 + 2 * 65533, BYTES(""), data, sizeof data, &len) == DNW_BAD_DATA);
     EXPECT(data[0] == '?' && len == 7);
     struct dnw_text_fault fault;
-    EXPECT(dnw_data_text_fault(DNW_CLASS_IN, DNW_TYPE_TLSA, digits, 6 + 2 * 65533, BYTES(""), &fault) == DNW_DONE);
+    EXPECT(dnw_data_text_fault(DNW_TYPE_TLSA, DNW_CLASS_IN, digits, 6 + 2 * 65533, BYTES(""), &fault) == DNW_DONE);
     EXPECT(fault.reason == DNW_REASON_TOO_LONG && fault.offset == 0 && fault.len == 1);
-    EXPECT(dnw_data_parse(DNW_CLASS_IN, DNW_TYPE_TLSA, digits, 6 + 2 * 65532, BYTES(""), data, 65534, &len) == DNW_NO_ROOM);
-    EXPECT(dnw_data_parse(DNW_CLASS_IN, DNW_TYPE_TLSA, digits, 6 + 2 * 65532, BYTES(""), data, sizeof data, &len) == DNW_DONE);
+    EXPECT(dnw_data_parse(DNW_TYPE_TLSA, DNW_CLASS_IN, digits, 6 + 2 * 65532, BYTES(""), data, 65534, &len) == DNW_NO_ROOM);
+    EXPECT(dnw_data_parse(DNW_TYPE_TLSA, DNW_CLASS_IN, digits, 6 + 2 * 65532, BYTES(""), data, sizeof data, &len) == DNW_DONE);
     EXPECT(len == 65535 && data[2] == 0 && data[3] == 0xAA && data[65534] == 0xAA && data[65535] == '?');
 }
 

@@ -71,7 +71,7 @@ static void call_texts(struct results *results)
     struct dnw_printed_record printed;
     KEEP(dnw_record_parse(BYTES("a. 1h IN TXT \"x\" y"), BYTES(""), buffer, sizeof buffer, &len), buffer, len);
     KEEP(dnw_record_print(BYTES(zone), 0, buffer, sizeof buffer, &printed), buffer, printed.len);
-    KEEP(dnw_data_parse(1, DNW_TYPE_SVCB, BYTES("1 . alpn=h2"), BYTES(""), buffer, sizeof buffer, &len), buffer, len);
+    KEEP(dnw_data_parse(DNW_TYPE_SVCB, 1, BYTES("1 . alpn=h2"), BYTES(""), buffer, sizeof buffer, &len), buffer, len);
     KEEP(dnw_record_sort_key(BYTES(zone), 0, buffer, sizeof buffer, &len), buffer, len);
     KEEP(dnw_types_read(BYTES("\000\001\142"), codes, 9, &count), codes, 2 * count);
     KEEP(dnw_types_write(codes, count, buffer, sizeof buffer, &len), buffer, len);

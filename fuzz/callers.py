@@ -27,6 +27,7 @@ WITHOUT_MODEL = {
     "dnw_option_print": "fuzz/options.py",
     "dnw_option_read": "fuzz/options.py",
     "dnw_option_write": "fuzz/options.py",
+    "dnw_version": "c/test.c",
     "dnw_writer_fill": "c/test_writer.c",
     "dnw_writer_query": "c/test_writer.c",
     "dnw_writer_reply": "c/test_writer.c",
@@ -42,8 +43,8 @@ LENGTHS = ("len", "text_len", "data_len", "count", "owner_len", "octets_len")
 # Buffers whose number of items has another name, and those of which it is not stored.
 OTHER_LENGTHS = {"rows": "row_count", "names": "names_len", "order": ""}
 # What the first comment of the header says in whole.
-NO_STATUS = r"Each function except `(dnw_\w+)` and `(dnw_\w+)` returns 0, or the number of an error\."
-STORES_FAILING = r"There are exceptions: `(dnw_\w+)` and\s+`(dnw_\w+)` store where the input is wrong, and what writes a message or its table may leave any octets there\."
+NO_STATUS = r"Each function except `(dnw_\w+)`, `(dnw_\w+)` and `(dnw_\w+)` returns 0, or the number of an error\."
+STORES_FAILING = r"There are exceptions:\s+`(dnw_\w+)` and `(dnw_\w+)` store where the input is wrong, and what writes a message or its table\s+may leave any octets there\."
 WHERE_WRONG = {"dnw_name_text_fault": "offset", "dnw_message_read": "fault"}
 # The errors that functions share by `by the rules above` follow these words.
 RULES, RULES_ABOVE = "an item fails with", "by the rules above"
@@ -89,7 +90,7 @@ def functions(text):
             comment = " ".join(part[1].split())
             continue
         result, name, listed = re.fullmatch(r"(\w+) (dnw_\w+)\((.*)\);", part[0], re.S).groups()
-        parameters = [Parameter(" ".join(it.split())) for it in listed.split(",")]
+        parameters = [Parameter(" ".join(it.split())) for it in listed.split(",") if it != "void"]
         found.append(Function(result, name, parameters, comment))
     return found
 
@@ -234,8 +235,9 @@ def function_rows(function, listed, failures, structs, names, exceptions):
         "sets_truncation": str("TC is set in the header" in function.comment).lower(),
         "stored_failing": str(stored[0]) if stored else "NO_PARAMETER",
     }
-    call = f"static uint64_t call_{function.name}(const struct argument *a)\n{{\n    return {function.name}({', '.join(passed(it, at) for at, it in enumerate(taken))});\n}}"
-    rows = "\n".join(parameter_row(function, it, structs, names) for it in taken)
+    unused = "" if taken else "    (void)a;\n"
+    call = f"static uint64_t call_{function.name}(const struct argument *a)\n{{\n{unused}    return {function.name}({', '.join(passed(it, at) for at, it in enumerate(taken))});\n}}"
+    rows = "\n".join(parameter_row(function, it, structs, names) for it in taken) or "    {.length = NO_PARAMETER},"
     table = f"static const struct parameter parameters_of_{function.name}[] = {{\n{rows}\n}};"
     row = f'    {{.name = "{function.name}", .call = call_{function.name}, .parameters = parameters_of_{function.name}, .count = {len(taken)},\n     '
     return call, table, row + ", ".join(f".{key} = {value}" for key, value in facts.items()) + "},"

@@ -94,7 +94,7 @@ static uint32_t field_next(void)
         return failure;
     fields = (struct dnw_fields){record.data_offset, 0};
     do
-        failure = dnw_field_next(made, record.end, record.data_offset, record.record_class, record.record_type, &fields, &field);
+        failure = dnw_field_next(made, record.end, record.data_offset, record.record_type, record.record_class, &fields, &field);
     while (failure == DNW_DONE && field.kind != DNW_FIELD_END);
     return failure;
 }
@@ -207,7 +207,7 @@ static uint32_t data_parse(void)
                                      DNW_TYPE_DNSKEY, DNW_TYPE_OPENPGPKEY, DNW_TYPE_NULL, DNW_TYPE_NAPTR, DNW_TYPE_AAAA};
     if (made_len == 0)
         return 0;
-    return dnw_data_parse(1, types[made[0] % 11], made + 1, made_len - 1, made, 0, OUT, &len);
+    return dnw_data_parse(types[made[0] % 11], 1, made + 1, made_len - 1, made, 0, OUT, &len);
 }
 
 static const char *const texts[] = {"a", "0", "9", ".", "\\", "\\000", "\\.", "\"", " ", "\n", ";", "(", ")", "=", ",", "key1=\"\" ", "a ",

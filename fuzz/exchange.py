@@ -114,7 +114,7 @@ def whole_data(message, record):
     octets, at, fields, field = b"", record.start, Pair(record.start, 0), Field()
     while True:
         answer = OURS.dnw_field_next(message, ctypes.c_size_t(record.end), ctypes.c_size_t(record.start),
-                                     ctypes.c_uint16(record.record_class), ctypes.c_uint16(record.kind), ctypes.byref(fields),
+                                     ctypes.c_uint16(record.kind), ctypes.c_uint16(record.record_class), ctypes.byref(fields),
                                      ctypes.byref(field))
         check(answer == 0, "field", answer, record.kind, message.hex())
         if field.kind == FIELD_END:

@@ -63,7 +63,7 @@ static uint32_t model_line(struct part text, struct part origin, size_t *len)
         return failure;
     size_t data_len;
     uint16_t class = (uint16_t)model_number(wanted + *len + 2, 2);
-    failure = dnw_data_parse(class, type, r.left.bytes, r.left.len, origin.bytes, origin.len, wanted + *len + 10, DATA, &data_len);
+    failure = dnw_data_parse(type, class, r.left.bytes, r.left.len, origin.bytes, origin.len, wanted + *len + 10, DATA, &data_len);
     if (failure != DNW_DONE)
         return failure;
     put_number(wanted + *len + 8, (uint32_t)data_len, 2);
@@ -146,12 +146,12 @@ static void parses_data(uint16_t type, struct part text, struct part origin)
     static uint8_t read[DATA];
     size_t len = 7, read_len = 0;
     uint8_t *data = clear(&output, MOST);
-    uint32_t answer = dnw_data_parse(DNW_CLASS_IN, type, text.bytes, text.len, origin.bytes, origin.len, data, MOST, &len);
+    uint32_t answer = dnw_data_parse(type, DNW_CLASS_IN, text.bytes, text.len, origin.bytes, origin.len, data, MOST, &len);
     struct model_name name;
     uint32_t failure = origin.len == 0 ? DNW_DONE : model_form(origin.bytes, origin.len, &name);
     CHECK(failure != DNW_DONE ? answer == failure : answer == DNW_DONE || answer == DNW_BAD_DATA);
     struct dnw_text_fault fault;
-    CHECK(dnw_data_text_fault(DNW_CLASS_IN, type, text.bytes, text.len, origin.bytes, origin.len, &fault) == failure);
+    CHECK(dnw_data_text_fault(type, DNW_CLASS_IN, text.bytes, text.len, origin.bytes, origin.len, &fault) == failure);
     if (failure == DNW_DONE) {
         is_fault_of(fault, text, answer == DNW_DONE);
         saw(128 * (size_t)type + fault.reason);
@@ -174,7 +174,7 @@ static void parses_data(uint16_t type, struct part text, struct part origin)
     if (len > 0) {
         size_t size = len;
         data = clear(&output, size - 1);
-        CHECK(dnw_data_parse(DNW_CLASS_IN, type, text.bytes, text.len, origin.bytes, origin.len, data, size - 1, &len) == DNW_NO_ROOM);
+        CHECK(dnw_data_parse(type, DNW_CLASS_IN, text.bytes, text.len, origin.bytes, origin.len, data, size - 1, &len) == DNW_NO_ROOM);
         CHECK(untouched(data, size - 1) && len == size);
     }
 }

@@ -282,7 +282,7 @@ def parsed_line(line):
 
 
 def parsed_data(code, text):
-    return made(OURS.dnw_data_parse, ctypes.c_uint16(IN), ctypes.c_uint16(code), *sized(text.encode()))
+    return made(OURS.dnw_data_parse, ctypes.c_uint16(code), ctypes.c_uint16(IN), *sized(text.encode()))
 
 
 def type_text(code):

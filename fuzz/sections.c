@@ -152,7 +152,7 @@ static void reads_fields(const uint8_t *message, size_t end, uint16_t class, uin
         const struct dnw_fields before = fields;
         field = wanted = (struct dnw_field){77, 7, 7};
         answer = model_next(message, end, offset, class, type, &wanted_fields, &wanted);
-        CHECK(dnw_field_next(message, end, offset, class, type, &fields, &field) == answer);
+        CHECK(dnw_field_next(message, end, offset, type, class, &fields, &field) == answer);
         if (answer != DNW_DONE) {
             CHECK(fields.offset == before.offset && fields.number == before.number);
             CHECK(field.kind == 77 && field.offset == 7 && field.len == 7);

@@ -155,7 +155,7 @@ bool take_name(struct reader *r)
     size_t len;
     if (word.len >= 2 && word.bytes[0] == '\\' && word.bytes[1] == '#')
         word = (struct part){word.bytes + 1, word.len - 1};
-    if (word.len == 0 || dnw_data_parse(DNW_CLASS_IN, DNW_TYPE_CNAME, word.bytes, word.len, r->origin.bytes, r->origin.len, r->out + r->len,
+    if (word.len == 0 || dnw_data_parse(DNW_TYPE_CNAME, DNW_CLASS_IN, word.bytes, word.len, r->origin.bytes, r->origin.len, r->out + r->len,
                                         DNW_FORM_SIZE, &len) != DNW_DONE)
         return false;
     r->len += len;

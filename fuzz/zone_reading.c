@@ -99,7 +99,7 @@ static uint32_t take_record(struct reader *r, struct dnw_zone *zone, size_t owne
     size_t len;
     bool is_data = class == DNW_CLASS_IN
                        ? model_data_text(type, r->left, r->origin, data, &len)
-                       : dnw_data_parse(class, type, r->left.bytes, r->left.len, r->origin.bytes, r->origin.len, data, UINT16_MAX, &len) == DNW_DONE;
+                       : dnw_data_parse(type, class, r->left.bytes, r->left.len, r->origin.bytes, r->origin.len, data, UINT16_MAX, &len) == DNW_DONE;
     if (!is_data)
         return DNW_ZONE_ERROR;
     if (!has_ttl && type == DNW_TYPE_SOA && model_number(data + len - 4, 4) <= MAX_TTL) {

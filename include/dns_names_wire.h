@@ -6,10 +6,11 @@
    any other argument. Nothing is kept from one call to the next: a caller frees only its own memory, and may call from
    several threads at once.
 
-   Each function except `dnw_error_text` and `dnw_serial_add` returns 0, or the number of an error. A function that
-   fails stores nothing, neither in the buffer nor through a pointer. There are exceptions: `dnw_name_text_fault` and
-   `dnw_message_read` store where the input is wrong, and what writes a message or its table may leave any octets there.
-   Every input is checked: no byte outside the arguments is read or written.
+   Each function except `dnw_error_text`, `dnw_serial_add` and `dnw_version` returns 0, or the number of an error. A
+   function that fails stores nothing, neither in the buffer nor through a pointer. There are exceptions:
+   `dnw_name_text_fault` and `dnw_message_read` store where the input is wrong, and what writes a message or its table
+   may leave any octets there. Every input is checked: no byte outside the arguments is read or written. The type of a
+   record is always before its class.
 
    The wire form of a name (RFC 1035, section 3.1) is its labels, each with a length octet before it, and a zero octet
    at the end. It has at most 255 octets. The text of a name is that of master files (RFC 1035, section 5.1): `\.` is a
@@ -25,6 +26,9 @@
 #ifdef __cplusplus
 extern "C" {
 #endif
+
+/* The version of this header: its major, minor and patch number, an octet each. `dnw_version` returns the library's. */
+#define DNW_VERSION 0x000100
 
 /* Sizes that are always enough: for a wire form, a sort key, the text of a name, the text of a type or a class, and a
    sentence about a text. */
@@ -388,7 +392,7 @@ struct dnw_field {
     size_t len;
 };
 
-/* Stores the next field of the data of a record of class `record_class` and type `record_type`, and moves `fields` past
+/* Stores the next field of the data of a record of type `record_type` and class `record_class`, and moves `fields` past
    it. Pass the message up to the end of the record, as `message` and `record.end`, and where the data begin, as
    `record.data_offset`. Data of a type without fields here are one field of octets (RFC 3597), and so are those of a
    type that only IN has in another class; of classes NONE and ANY they have the fields of IN, or none if there are no
@@ -401,8 +405,8 @@ struct dnw_field {
    service parameter is not greater than the one before it; and with DNW_BAD_FAMILY if an address prefix has more bits
    or octets than its family allows or ends in a zero octet, or if the type of a gateway is unknown. If it fails,
    `fields` is unchanged. */
-uint32_t dnw_field_next(const uint8_t *message, size_t data_end, size_t data_offset, uint16_t record_class,
-                        uint16_t record_type, struct dnw_fields *fields, struct dnw_field *field);
+uint32_t dnw_field_next(const uint8_t *message, size_t data_end, size_t data_offset, uint16_t record_type,
+                        uint16_t record_class, struct dnw_fields *fields, struct dnw_field *field);
 
 /* A row of the table of a message. The row of an item, which is a question or a record, has its section, kind 0, and its type
    and class. `number` is the TTL of a record, and 0 for a question. The `len` octets at `offset` are the data of a record; a
@@ -509,9 +513,9 @@ uint32_t dnw_message_print(const uint8_t *message, size_t message_len, size_t ma
 uint32_t dnw_message_json(const uint8_t *message, size_t message_len, size_t max_pointers, size_t start, uint8_t *text,
                           size_t text_size, struct dnw_printed_part *printed);
 
-/* Parses the text of data of class `record_class` and type `record_type`, and stores the data, and their length in
+/* Parses the text of data of type `record_type` and class `record_class`, and stores the data, and their length in
    `len`. The text is the fields of the type with white space between them, as dnw_record_print prints them, or the form
-   of any data, `\# 4 0A000001` (RFC 3597, section 5), whose octets have to be data of the class and type, without
+   of any data, `\# 4 0A000001` (RFC 3597, section 5), whose octets have to be data of the type and class, without
    compression pointers. A type without fields of its own takes only that form. An empty text is no data, which classes
    NONE and ANY allow. Names are stored uncompressed. The name with the wire form `origin`
    is appended to names without a last dot, and `@` is that name; if `origin_len` is 0 there is no origin, and such
@@ -526,7 +530,7 @@ uint32_t dnw_message_json(const uint8_t *message, size_t message_len, size_t max
    DNW_UNCLOSED_QUOTE, DNW_TEXT_CUT or DNW_ILLEGAL_CHARACTER, as dnw_record_parse; with DNW_BAD_DATA if the text is not
    data of the type, has more than 65535 octets of data, or if more than white space follows the entry; with DNW_NO_ROOM if
    it has more than `data_size`; and with DNW_NO_MEMORY. dnw_data_text_fault reports where the text is wrong. */
-uint32_t dnw_data_parse(uint16_t record_class, uint16_t record_type, const uint8_t *text, size_t text_len, const uint8_t *origin,
+uint32_t dnw_data_parse(uint16_t record_type, uint16_t record_class, const uint8_t *text, size_t text_len, const uint8_t *origin,
                         size_t origin_len, uint8_t *data, size_t data_size, size_t *len);
 
 /* Parses a line of a master file (RFC 1035, section 5.1), and stores the record, and its length in `len`: the owner's
@@ -640,9 +644,9 @@ struct dnw_text_fault {
 uint32_t dnw_record_text_fault(const uint8_t *text, size_t text_len, const uint8_t *origin, size_t origin_len,
                                struct dnw_text_fault *fault);
 
-/* Stores where a text goes wrong that dnw_data_parse takes, with the same class, type and origin, as
+/* Stores where a text goes wrong that dnw_data_parse takes, with the same type, class and origin, as
    dnw_record_text_fault does. It fails as that does, and with DNW_NO_MEMORY. */
-uint32_t dnw_data_text_fault(uint16_t record_class, uint16_t record_type, const uint8_t *text, size_t text_len,
+uint32_t dnw_data_text_fault(uint16_t record_type, uint16_t record_class, const uint8_t *text, size_t text_len,
                              const uint8_t *origin, size_t origin_len, struct dnw_text_fault *fault);
 
 /* Stores a sentence about a fault in `text`, and its length in `len`, as `at offset 14: wanted a name (field 1)`. It has
@@ -1437,6 +1441,10 @@ uint32_t dnw_token_next(const uint8_t *text, size_t text_len, struct dnw_lexer *
 /* Stores the text of an error if it fits, and returns its length, at most 64. The text of 0 is `success`, and that of a
    number not listed above is empty. */
 size_t dnw_error_text(uint32_t number, uint8_t *text, size_t text_size);
+
+/* Returns the version of the library, as DNW_VERSION is that of this header. A program that loads a shared library may
+   compare them: before 1.0.0 another minor number may have other parameters. It cannot fail, and does not allocate. */
+uint32_t dnw_version(void);
 
 #ifdef __cplusplus
 }

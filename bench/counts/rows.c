@@ -72,7 +72,7 @@ static void fields_walk(void)
         struct dnw_fields fields = {record.data_offset, 0};
         struct dnw_field field;
         do {
-            must(dnw_field_next(RESPONSE, record.end, record.data_offset, record.record_class, record.record_type, &fields, &field));
+            must(dnw_field_next(RESPONSE, record.end, record.data_offset, record.record_type, record.record_class, &fields, &field));
             sum += field.len;
         } while (field.kind != DNW_FIELD_END);
         at = record.end;
@@ -88,7 +88,7 @@ static uint64_t whole_data(const struct dnw_record *record)
     struct dnw_read_name read;
     uint64_t octets = 0;
     for (;;) {
-        must(dnw_field_next(RESPONSE, record->end, record->data_offset, record->record_class, record->record_type, &fields, &field));
+        must(dnw_field_next(RESPONSE, record->end, record->data_offset, record->record_type, record->record_class, &fields, &field));
         if (field.kind == DNW_FIELD_END)
             return octets;
         if (field.kind == DNW_FIELD_NAME)

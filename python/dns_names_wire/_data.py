@@ -119,7 +119,7 @@ def data_from_text(record_type: "TypeLike", text: Union[str, bytes], origin: Opt
     MX(preference=10, exchange=Name('mail.example.'))
     """
     code = code_of(RecordType, "record_type", record_type)
-    parse, find = (partial(function, 1, code) for function in (library.dnw_data_parse, library.dnw_data_text_fault))
+    parse, find = (partial(function, code, 1) for function in (library.dnw_data_parse, library.dnw_data_text_fault))
     octets = parsed(parse, find, text, origin, lambda octets: _root_record(code, octets))
     return data_from_wire(code, octets)
 

@@ -325,8 +325,8 @@ extern "C" {
         message: *const u8,
         data_end: usize,
         data_offset: usize,
-        record_class: u16,
         record_type: u16,
+        record_class: u16,
         fields: *mut Fields,
         field: *mut Field,
     ) -> u32;
@@ -500,8 +500,8 @@ extern "C" {
         printed: *mut PrintedPart,
     ) -> u32;
     fn dnw_data_parse(
-        record_class: u16,
         record_type: u16,
+        record_class: u16,
         text: *const u8,
         text_len: usize,
         origin: *const u8,
@@ -527,8 +527,8 @@ extern "C" {
         fault: *mut MasterFault,
     ) -> u32;
     fn dnw_data_text_fault(
-        record_class: u16,
         record_type: u16,
+        record_class: u16,
         text: *const u8,
         text_len: usize,
         origin: *const u8,

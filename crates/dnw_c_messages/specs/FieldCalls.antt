@@ -84,15 +84,15 @@ abbrev pub FailsNextField : Option Kind → List ℕ → ℕ → Failure → Typ
 FailsNextField None octets p failure = (p < length octets) × (failure ≡ WrongDataLength)
 FailsNextField (Some kind) octets p failure = FailsToTakeField kind octets p failure
 
--- the kind of the field with this number of these data, by the codes of class and type
+-- the kind of the field with this number of these data, by the codes of type and class
 abbrev pub kind_at : ℕ → ℕ → List ℕ → ℕ → Option Kind
-kind_at class code own number = slice_get (fields_of class code own) number
+kind_at code class own number = slice_get (fields_of class code own) number
 
--- The next field of data of this class and type, by their codes, which begin there and end where the octets do, is the value, or
+-- The next field of data of this type and class, by their codes, which begin there and end where the octets do, is the value, or
 -- there are no more, and where the cursor is after it. Else the start or the cursor is past the octets, or no such field is there.
 abbrev pub ReadsNextField : List ℕ → ℕ → ℕ → ℕ → FieldCursor → Result (ReadField × FieldCursor) Failure → Type 0
-ReadsNextField octets start class code at =
-    let kind = kind_at class code (drop start octets) at.number in
+ReadsNextField octets start code class at =
+    let kind = kind_at code class (drop start octets) at.number in
     GivesOr
     (λ found. (at.offset ≤ length octets) × (start ≤ length octets) × TakesNextField kind octets at found.1 found.0)
     (λ failure. (((length octets < at.offset) ⊎ (length octets < start)) × (failure ≡ MessageCut))

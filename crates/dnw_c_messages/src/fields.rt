@@ -33,21 +33,21 @@ pub struct ReadField {
     pub len: usize,
 }
 
-/// Puts the next field of the data of a record of this class and type, which begin at `start` and end where the message does,
+/// Puts the next field of the data of a record of this type and class, which begin at `start` and end where the message does,
 /// and moves the cursor past it. Its kind is 0 if there are no more. It does not allocate.
 #[unsafe(no_mangle)]
 pub extern "C" fn dnw_field_next(
     message: &[u8],
     start: usize,
-    class: u16,
     record_type: u16,
+    class: u16,
     cursor: &mut FieldCursor,
     field: &mut ReadField,
 ) -> u32
-    ensures { Returns (ReadsNextField message.now start class record_type cursor.old) (field.old, cursor.old)
+    ensures { Returns (ReadsNextField message.now start record_type class cursor.old) (field.old, cursor.old)
         (field.new, cursor.new) result }
 {
-    let next = next(message, start, class, record_type, *cursor);
+    let next = next(message, start, record_type, class, *cursor);
     report_both(next, field, cursor)
 }
 
@@ -56,11 +56,11 @@ pub extern "C" fn dnw_field_next(
 fn next(
     message: &[u8],
     start: usize,
-    class: u16,
     record_type: u16,
+    class: u16,
     at: FieldCursor,
 ) -> Result<(ReadField, FieldCursor), Failure>
-    ensures { ReadsNextField message.now start class record_type at result }
+    ensures { ReadsNextField message.now start record_type class at result }
 {
     if message.len() < at.offset || message.len() < start {
         return Err(Failure::MessageCut);

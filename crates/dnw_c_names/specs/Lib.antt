@@ -1,6 +1,7 @@
 pub mod Inside
 pub mod Buffers
 pub mod TextFaultCalls
+pub mod Version
 pub mod NameCalls
 pub mod NameEdits
 pub mod NameLists

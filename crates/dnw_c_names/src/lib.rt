@@ -22,5 +22,7 @@ pub mod sort_key;
 pub mod sorting;
 /// Where the texts of names go wrong.
 pub mod text_faults;
+/// The version of the library.
+pub mod version;
 /// Octets that are the wire form of a name.
 pub mod wire_form;

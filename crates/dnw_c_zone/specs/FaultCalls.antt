@@ -124,9 +124,9 @@ abbrev pub FindsRecordFault : List ℕ → List ℕ → Result TextFault Failure
 FindsRecordFault text form result =
     FindsTextFault (λ origin. IsRecordEntry origin text) (λ origin. FailsRecordEntry origin text) (fault_of_entry text) form result
 
--- where a text that is data of the class and type with these codes, maybe with comments and parentheses, goes wrong
+-- where a text that is data of the type and class with these codes, maybe with comments and parentheses, goes wrong
 abbrev pub FindsDataFault : ℕ → ℕ → List ℕ → List ℕ → Result TextFault Failure → Type 0
-FindsDataFault class code text form result =
+FindsDataFault code class text form result =
     FindsTextFault (λ origin. IsDataEntry origin (class_of_code class) (type_of_code code) text)
     (λ origin. FailsDataEntry origin (class_of_code class) (type_of_code code) text) (fault_of_entry text) form result
 

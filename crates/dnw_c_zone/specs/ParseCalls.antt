@@ -73,9 +73,9 @@ PutsParsed Has Lacks form old new result =
     ⊎ Refuses (λ failure. (origin : Option NameValue) × IsOrigin form origin × Lacks origin failure) old new result
     ⊎ Refuses (IsNoOrigin form) old new result
 
--- The data of the class and type with these codes are put.
+-- The data of the type and class with these codes are put.
 abbrev pub PutsData : ℕ → ℕ → List ℕ → List ℕ → List ℕ → List ℕ → Result ℕ Failure → Type 0
-PutsData class code text form old new result =
+PutsData code class text form old new result =
     PutsParsed (λ origin. IsDataEntry origin (class_of_code class) (type_of_code code) text)
     (λ origin. LacksDataText origin (class_of_code class) (type_of_code code) text) form old new result
 

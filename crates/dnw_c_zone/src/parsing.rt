@@ -22,20 +22,20 @@ use dnw_zone_record::record_line::RecordLineError;
 use dnw_zone_record::word_error::WordRule;
 use std::alloc::Global;
 
-/// Puts the octets of the data that a text is, with comments and parentheses, for the class and the type with these codes. The origin is a wire form, or no octets for none.
+/// Puts the octets of the data that a text is, with comments and parentheses, for the type and the class with these codes. The origin is a wire form, or no octets for none.
 #[unsafe(no_mangle)]
 pub extern "C" fn dnw_data_parse(
     alloc: Global,
-    class: u16,
     record_type: u16,
+    class: u16,
     text: &[u8],
     origin: &[u8],
     octets: &mut [u8],
     len: &mut usize,
 ) -> u32
-    ensures { Returns (PutsData class record_type text.now origin.now octets.old octets.new) len.old len.new result }
+    ensures { Returns (PutsData record_type class text.now origin.now octets.old octets.new) len.old len.new result }
 {
-    let put = put_data(alloc, class, record_type, text, origin, octets);
+    let put = put_data(alloc, record_type, class, text, origin, octets);
     report(put, len)
 }
 
@@ -56,16 +56,16 @@ pub extern "C" fn dnw_record_parse(
 /// Puts data, and returns the number of their octets.
 fn put_data(
     alloc: Global,
-    class: u16,
     record_type: u16,
+    class: u16,
     text: &[u8],
     form: &[u8],
     octets: &mut [u8],
 ) -> Result<usize, Failure>
-    ensures { PutsData class record_type text.now form.now octets.old octets.new result }
+    ensures { PutsData record_type class text.now form.now octets.old octets.new result }
 {
     let origin = origin_of(alloc, form)?;
-    let own = own_data(alloc, class, record_type, text, &origin)?;
+    let own = own_data(alloc, record_type, class, text, &origin)?;
     put(octets, own.as_slice())
 }
 
@@ -102,11 +102,11 @@ pub(crate) fn ref_of(form: &[u8]) -> Result<NameRef<'_>, Failure>
     Ok(name)
 }
 
-/// Returns the octets of data of the class and the type with these codes.
+/// Returns the octets of data of the type and the class with these codes.
 fn own_data(
     alloc: Global,
-    class: u16,
     record_type: u16,
+    class: u16,
     text: &[u8],
     origin: &Option<Name>,
 ) -> Result<Vec<u8>, Failure>

@@ -47,15 +47,15 @@ pub extern "C" fn dnw_record_text_fault(
 #[unsafe(no_mangle)]
 pub extern "C" fn dnw_data_text_fault(
     alloc: Global,
-    class: u16,
     record_type: u16,
+    class: u16,
     text: &[u8],
     origin: &[u8],
     fault: &mut TextFault,
 ) -> u32
-    ensures { Returns (FindsDataFault class record_type text.now origin.now) fault.old fault.new result }
+    ensures { Returns (FindsDataFault record_type class text.now origin.now) fault.old fault.new result }
 {
-    report(data_fault(alloc, class, record_type, text, origin), fault)
+    report(data_fault(alloc, record_type, class, text, origin), fault)
 }
 
 /// Puts a sentence about where a text goes wrong. It is empty if nothing is wrong.
@@ -98,12 +98,12 @@ fn record_fault(alloc: Global, text: &[u8], form: &[u8]) -> Result<TextFault, Fa
 /// Returns where a text goes wrong that is to be data.
 fn data_fault(
     alloc: Global,
-    class: u16,
     record_type: u16,
+    class: u16,
     text: &[u8],
     form: &[u8],
 ) -> Result<TextFault, Failure>
-    ensures { FindsDataFault class record_type text.now form.now result }
+    ensures { FindsDataFault record_type class text.now form.now result }
 {
     let origin = match origin_of(alloc, form) {
         Ok(origin) => origin,

@@ -25,7 +25,7 @@ pub(crate) fn next_field(message: &[u8], start: usize, form: (u16, u16), fields:
     let (message, data_end, (class, record_type)) = (message.as_ptr(), message.len(), form);
     let mut field = Field::default();
     // SAFETY: a pointer with its length, see the module, and pointers to structs of these types.
-    let number = unsafe { dnw_field_next(message, data_end, start, class, record_type, fields, &mut field) };
+    let number = unsafe { dnw_field_next(message, data_end, start, record_type, class, fields, &mut field) };
     outcome(number, field).map_err(|error| error.at_offset(fields.offset))
 }
 
@@ -71,12 +71,12 @@ pub(crate) fn parse_data(form: (u16, u16), text: &[u8], origin: &[u8], octets: &
     let (text, text_len, name, name_len) = (text.as_ptr(), text.len(), origin.as_ptr(), origin.len());
     // SAFETY: pointers with their lengths, see the module; and the room is not read.
     append_put(octets, DATA_SIZE, |room, size, len| unsafe {
-        dnw_data_parse(class, record_type, text, text_len, name, name_len, room, size, len)
+        dnw_data_parse(record_type, class, text, text_len, name, name_len, room, size, len)
     })
     .map_err(|error| {
         let mut fault = MasterFault::default();
         // SAFETY: pointers with their lengths, see the module, and one to a struct of this type.
-        unsafe { dnw_data_text_fault(class, record_type, text, text_len, name, name_len, &mut fault) };
+        unsafe { dnw_data_text_fault(record_type, class, text, text_len, name, name_len, &mut fault) };
         error.at_master_fault(fault)
     })
 }
