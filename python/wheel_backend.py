@@ -1,30 +1,39 @@
-"""Builds the wheel of dns_names_wire, with the standard library alone: `pip wheel python` uses it, and so can a script.
+"""Builds the wheel and the sdist of dns_names_wire, with the standard library alone: `pip wheel python` uses it, and so can a script.
 
     DNW_LIB_DIR=FOLDER python3 wheel_backend.py OUT
+    python3 wheel_backend.py sdist OUT
 
 The wheel has the shared library `libdns_names_wire.so`. It is taken from the folder that the environment variable
 DNW_LIB_DIR names; if that is not set, `tools/c-library` of the repository builds it, for which the Rattle toolchain has
-to be there. For which machine the wheel is, and whether for glibc or for musl, is read from the library.
+to be there. For which machine the wheel is, and whether for glibc or for musl, is read from the library. The sdist has
+no library: a wheel is built of it with DNW_LIB_DIR, which may name the folder `lib` of the archive for C.
 """
 
 import base64
+import gzip
 import hashlib
+import io
 import os
 import pathlib
 import re
 import subprocess
 import sys
+import tarfile
 import tempfile
 import zipfile
 
 HERE = pathlib.Path(__file__).resolve().parent
 LIBRARY = "libdns_names_wire.so"
-LICENCES = ["NOTICE", "LICENSE-APACHE", "LICENSE-MIT"]
+LICENCES = ["NOTICE", "LICENSE-APACHE", "LICENSE-MIT", "LICENSE-PARTS"]
 NAME = "dns_names_wire"
-# The version and the authors are only in rust/Cargo.toml.
-CARGO = (HERE.parent / "rust/Cargo.toml").read_text()
-VERSION = re.search(r'^version = "(.+)"$', CARGO, re.M)[1]
-AUTHORS = re.search(r'^authors = \["(.+)"\]$', CARGO, re.M)[1]
+# The version and the authors are only in rust/Cargo.toml of the repository, and in PKG-INFO of an sdist.
+IS_SDIST = (HERE / "PKG-INFO").is_file()
+ROOT = HERE if IS_SDIST else HERE.parent
+SAID = (HERE / "PKG-INFO" if IS_SDIST else ROOT / "rust/Cargo.toml").read_text()
+VERSION = re.search(r'^[Vv]ersion(?:: | = ")([^"\n]+)', SAID, re.M)[1]
+AUTHORS = re.search(r'^(?:Author: |authors = \[")([^"\n]+)', SAID, re.M)[1]
+# The time of each file of the sdist, the first that a wheel can have.
+START_OF_1980 = 315532800
 CLASSIFIERS = [
     "Development Status :: 4 - Beta",
     "Intended Audience :: Developers",
@@ -70,22 +79,29 @@ def shared_library():
     folder = os.environ.get("DNW_LIB_DIR")
     if folder:
         return (pathlib.Path(folder) / LIBRARY).read_bytes()
+    if IS_SDIST:
+        sys.exit(f"set DNW_LIB_DIR to a folder that has {LIBRARY}, as lib of the archive for C")
     with tempfile.TemporaryDirectory() as room:
-        subprocess.run([HERE.parent / "tools" / "c-library", room], check=True)
+        subprocess.run([ROOT / "tools" / "c-library", room], check=True)
         return (pathlib.Path(room) / LIBRARY).read_bytes()
+
+
+def package():
+    """Returns the files of the package by name, except its library."""
+    files = {f"{NAME}/{path.name}": path.read_bytes() for path in sorted((HERE / NAME).glob("*.py"))}
+    files[f"{NAME}/_version.py"] = f'"""The version of the package."""\n\nVERSION = "{VERSION}"\n'.encode()
+    files[f"{NAME}/py.typed"] = b""
+    return files
 
 
 def contents(tag, library):
     """Returns the files of the wheel by name, except RECORD."""
-    package = HERE / NAME
-    files = {f"{NAME}/{path.name}": path.read_bytes() for path in sorted(package.glob("*.py"))}
-    files[f"{NAME}/_version.py"] = f'"""The version of the package."""\n\nVERSION = "{VERSION}"\n'.encode()
-    files[f"{NAME}/py.typed"] = b""
+    files = package()
     files[f"{NAME}/{LIBRARY}"] = library
     info = f"{NAME}-{VERSION}.dist-info"
     files[f"{info}/METADATA"] = METADATA.encode()
     files[f"{info}/WHEEL"] = f"Wheel-Version: 1.0\nGenerator: wheel_backend\nRoot-Is-Purelib: false\nTag: {tag}\n".encode()
-    files.update({f"{info}/{licence}": (HERE.parent / licence).read_bytes() for licence in LICENCES})
+    files.update({f"{info}/{licence}": (ROOT / licence).read_bytes() for licence in LICENCES})
     return files
 
 
@@ -117,11 +133,26 @@ def build_wheel(wheel_directory, config_settings=None, metadata_directory=None):
 
 
 def build_sdist(sdist_directory, config_settings=None):
-    raise NotImplementedError("there is a wheel alone")
+    """Builds the sdist and returns its file name (PEP 517, PEP 625). The same files always make the same sdist."""
+    files = {it.name: it.read_bytes() for it in (HERE / "pyproject.toml", HERE / "README.md", HERE / "wheel_backend.py")}
+    files["PKG-INFO"] = METADATA.encode()
+    files.update({licence: (ROOT / licence).read_bytes() for licence in LICENCES})
+    files.update(package())
+    files.update({f"tests/{path.name}": path.read_bytes() for path in sorted((HERE / "tests").glob("*.py"))})
+    sdist, octets = f"{NAME}-{VERSION}", io.BytesIO()
+    with tarfile.open(fileobj=octets, mode="w", format=tarfile.PAX_FORMAT) as archive:
+        for name, content in sorted(files.items()):
+            entry = tarfile.TarInfo(f"{sdist}/{name}")
+            entry.size, entry.mtime = len(content), START_OF_1980
+            archive.addfile(entry, io.BytesIO(content))
+    packed = gzip.compress(octets.getvalue(), mtime=START_OF_1980)
+    (pathlib.Path(sdist_directory) / f"{sdist}.tar.gz").write_bytes(packed)
+    return f"{sdist}.tar.gz"
 
 
 if __name__ == "__main__":
-    if len(sys.argv) != 2:
+    build = build_sdist if sys.argv[1:2] == ["sdist"] and len(sys.argv) == 3 else build_wheel
+    if len(sys.argv) != (3 if build is build_sdist else 2):
         sys.exit(__doc__)
-    pathlib.Path(sys.argv[1]).mkdir(parents=True, exist_ok=True)
-    print(build_wheel(sys.argv[1]))
+    pathlib.Path(sys.argv[-1]).mkdir(parents=True, exist_ok=True)
+    print(build(sys.argv[-1]))
