@@ -48,7 +48,7 @@ def over_tcp(server: Tuple[str, int], query: Message) -> Message:
 
 
 def main(address: str, port: str, name: str, record_type: str) -> None:
-    server, query = (address, int(port)), make_query(name, record_type, payload=PAYLOAD)
+    server, query = (address, int(port)), make_query(name, record_type, max_payload=PAYLOAD)
     reply = over_udp(server, query)
     if reply.header.truncation:
         reply = over_tcp(server, query)

@@ -88,7 +88,7 @@ def shared_library():
 
 def package():
     """Returns the files of the package by name, except its library."""
-    files = {f"{NAME}/{path.name}": path.read_bytes() for path in sorted((HERE / NAME).glob("*.py"))}
+    files = {f"{NAME}/{path.name}": path.read_bytes() for path in sorted((HERE / NAME).glob("*.py*")) if path.suffix in (".py", ".pyi")}
     files[f"{NAME}/_version.py"] = f'"""The version of the package."""\n\nVERSION = "{VERSION}"\n'.encode()
     files[f"{NAME}/py.typed"] = b""
     return files

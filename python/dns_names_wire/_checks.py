@@ -35,11 +35,9 @@ def octets(what: str, value: object) -> bytes:
 def number(what: str, value: object, most: Optional[int] = None) -> int:
     """Returns the value as an `int` of at least 0, and at most `most` if that is given."""
     try:
-        whole = operator.index(value)  # type: ignore[arg-type]
+        whole = value if type(value) is int else int.__add__(operator.index(value), 0)  # type: ignore[arg-type]
     except TypeError:
         raise wrong_type(what, "an int is", value) from None
-    if type(whole) is not int:
-        whole = int.__add__(whole, 0)
     if whole < 0 and most is None:
         raise ValueError(f"{what}: {whole} is negative")
     if most is not None and not 0 <= whole <= most:

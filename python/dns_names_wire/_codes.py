@@ -1,20 +1,20 @@
-"""Record types and classes."""
+"""Record types and classes, and the codes of headers."""
 
-from ctypes import byref, c_size_t, c_uint16
-from typing import Any, Callable, ClassVar, Dict, Optional, Type, TypeVar
+from ctypes import byref, c_uint16
+from typing import Any, Callable, ClassVar, Dict, Mapping, Type, TypeVar
 
 from . import _checks
-from ._errors import UnknownText, check, error_text
-from ._library import CODE_SIZE, CodeText, library, taken
+from . import _header as dnw
+from ._code_names import OP_CODES, RECORD_TYPES, RESPONSE_CODES, OpCodes, RecordTypes, ResponseCodes
+from ._errors import check, stored
+from ._library import library
 
 _MOST = 65535
 _Own = TypeVar("_Own", bound="_Code")
 
 
 def _text(function: Callable[..., int], code: int) -> str:
-    text, length = CodeText(), c_size_t()
-    check(function(_checks.number("code", code, _MOST), text, CODE_SIZE, byref(length)))
-    return taken(text, length.value).decode("ascii")
+    return stored(function, _checks.number("code", code, _MOST)).decode("ascii")
 
 
 def _code(function: Callable[..., int], text: str) -> int:
@@ -76,10 +76,10 @@ class _Code(int):
     @classmethod
     def of(cls: Type[_Own], code: int) -> _Own:
         """Returns the code with a number. Each is created once."""
-        made: Optional[_Own] = cls._made.get(code)
+        made: Any = cls._made.get(code)
         if made is None:
             made = cls._made[code] = cls(code)
-        return made
+        return made  # type: ignore[no-any-return]
 
     @classmethod
     def from_text(cls: Type[_Own], text: str) -> _Own:
@@ -102,7 +102,7 @@ def code_of(kind: Type[_Own], what: str, value: object) -> _Own:
     return kind.from_text(value) if isinstance(value, str) else kind.of(_checks.number(what, value, kind._most))
 
 
-class RecordType(_Code):
+class RecordType(_Code, RecordTypes):
     """A record type: its code, as an `int`. There is a constant for each type that has a name.
 
     >>> RecordType.AAAA, RecordType.AAAA == 28, str(RecordType.AAAA)
@@ -113,108 +113,6 @@ class RecordType(_Code):
 
     _text_of = staticmethod(type_text)
     _code_of = staticmethod(type_code)
-
-    # made by tools/types from crates/dnw_data/specs/Table.antt
-    ZERO: ClassVar["RecordType"]
-    A: ClassVar["RecordType"]
-    NS: ClassVar["RecordType"]
-    MD: ClassVar["RecordType"]
-    MF: ClassVar["RecordType"]
-    CNAME: ClassVar["RecordType"]
-    SOA: ClassVar["RecordType"]
-    MB: ClassVar["RecordType"]
-    MG: ClassVar["RecordType"]
-    MR: ClassVar["RecordType"]
-    NULL: ClassVar["RecordType"]
-    WKS: ClassVar["RecordType"]
-    PTR: ClassVar["RecordType"]
-    HINFO: ClassVar["RecordType"]
-    MINFO: ClassVar["RecordType"]
-    MX: ClassVar["RecordType"]
-    TXT: ClassVar["RecordType"]
-    RP: ClassVar["RecordType"]
-    AFSDB: ClassVar["RecordType"]
-    X25: ClassVar["RecordType"]
-    ISDN: ClassVar["RecordType"]
-    RT: ClassVar["RecordType"]
-    NSAP: ClassVar["RecordType"]
-    NSAP_PTR: ClassVar["RecordType"]
-    SIG: ClassVar["RecordType"]
-    KEY: ClassVar["RecordType"]
-    PX: ClassVar["RecordType"]
-    GPOS: ClassVar["RecordType"]
-    AAAA: ClassVar["RecordType"]
-    LOC: ClassVar["RecordType"]
-    NXT: ClassVar["RecordType"]
-    EID: ClassVar["RecordType"]
-    NIMLOC: ClassVar["RecordType"]
-    SRV: ClassVar["RecordType"]
-    ATMA: ClassVar["RecordType"]
-    NAPTR: ClassVar["RecordType"]
-    KX: ClassVar["RecordType"]
-    CERT: ClassVar["RecordType"]
-    A6: ClassVar["RecordType"]
-    DNAME: ClassVar["RecordType"]
-    SINK: ClassVar["RecordType"]
-    OPT: ClassVar["RecordType"]
-    APL: ClassVar["RecordType"]
-    DS: ClassVar["RecordType"]
-    SSHFP: ClassVar["RecordType"]
-    IPSECKEY: ClassVar["RecordType"]
-    RRSIG: ClassVar["RecordType"]
-    NSEC: ClassVar["RecordType"]
-    DNSKEY: ClassVar["RecordType"]
-    DHCID: ClassVar["RecordType"]
-    NSEC3: ClassVar["RecordType"]
-    NSEC3PARAM: ClassVar["RecordType"]
-    TLSA: ClassVar["RecordType"]
-    SMIMEA: ClassVar["RecordType"]
-    HIP: ClassVar["RecordType"]
-    NINFO: ClassVar["RecordType"]
-    RKEY: ClassVar["RecordType"]
-    TALINK: ClassVar["RecordType"]
-    CDS: ClassVar["RecordType"]
-    CDNSKEY: ClassVar["RecordType"]
-    OPENPGPKEY: ClassVar["RecordType"]
-    CSYNC: ClassVar["RecordType"]
-    ZONEMD: ClassVar["RecordType"]
-    SVCB: ClassVar["RecordType"]
-    HTTPS: ClassVar["RecordType"]
-    DSYNC: ClassVar["RecordType"]
-    HHIT: ClassVar["RecordType"]
-    BRID: ClassVar["RecordType"]
-    SPF: ClassVar["RecordType"]
-    UINFO: ClassVar["RecordType"]
-    UID: ClassVar["RecordType"]
-    GID: ClassVar["RecordType"]
-    UNSPEC: ClassVar["RecordType"]
-    NID: ClassVar["RecordType"]
-    L32: ClassVar["RecordType"]
-    L64: ClassVar["RecordType"]
-    LP: ClassVar["RecordType"]
-    EUI48: ClassVar["RecordType"]
-    EUI64: ClassVar["RecordType"]
-    NXNAME: ClassVar["RecordType"]
-    TKEY: ClassVar["RecordType"]
-    TSIG: ClassVar["RecordType"]
-    IXFR: ClassVar["RecordType"]
-    AXFR: ClassVar["RecordType"]
-    MAILB: ClassVar["RecordType"]
-    MAILA: ClassVar["RecordType"]
-    ANY: ClassVar["RecordType"]
-    URI: ClassVar["RecordType"]
-    CAA: ClassVar["RecordType"]
-    AVC: ClassVar["RecordType"]
-    DOA: ClassVar["RecordType"]
-    AMTRELAY: ClassVar["RecordType"]
-    RESINFO: ClassVar["RecordType"]
-    WALLET: ClassVar["RecordType"]
-    CLA: ClassVar["RecordType"]
-    IPN: ClassVar["RecordType"]
-    TA: ClassVar["RecordType"]
-    DLV: ClassVar["RecordType"]
-    ANAME: ClassVar["RecordType"]
-    # made until here
 
 
 class RecordClass(_Code):
@@ -234,57 +132,17 @@ class RecordClass(_Code):
     ANY: ClassVar["RecordClass"]
 
 
-def _named(names: Dict[int, str]) -> Callable[[int], str]:
-    return lambda code: names.get(code, f"RESERVED{code}")
+def _parsed(names: Mapping[int, str], most: int, text: str) -> int:
+    """Returns the code with a name of its own, or with the name `RESERVED` and the number."""
+    own = _checks.text("text", text).decode(errors="replace").upper()
+    for code in range(most + 1):
+        if own == names.get(code, f"RESERVED{code}"):
+            return code
+    check(dnw.UNKNOWN_TEXT)
+    return 0
 
 
-def _numbered(names: Dict[int, str], most: int) -> Callable[[str], int]:
-    codes = {name: code for code, name in names.items()}
-    codes.update((f"RESERVED{code}", code) for code in range(most + 1))
-
-    def code_of(text: str) -> int:
-        code = codes.get(text.upper())
-        if code is None:
-            raise UnknownText(error_text(UnknownText.number))
-        return code
-
-    return code_of
-
-
-# made by tools/types from tools/codes.txt
-_OP_CODES = {
-    0: "QUERY",  # A standard query (RFC 1035, section 4.1.1)
-    1: "IQUERY",  # An inverse query, which is obsolete (RFC 3425)
-    2: "STATUS",  # A request for the status of a server (RFC 1035, section 4.1.1)
-    4: "NOTIFY",  # A zone has changed (RFC 1996)
-    5: "UPDATE",  # A request to change a zone (RFC 2136)
-}
-_RESPONSE_CODES = {
-    0: "NOERROR",  # No error (RFC 1035, section 4.1.1)
-    1: "FORMERR",  # The server could not interpret the request (RFC 1035, section 4.1.1)
-    2: "SERVFAIL",  # The server failed (RFC 1035, section 4.1.1)
-    3: "NXDOMAIN",  # The name does not exist (RFC 1035, section 4.1.1)
-    4: "NOTIMP",  # The server does not support this kind of request (RFC 1035, section 4.1.1)
-    5: "REFUSED",  # The server refuses the request (RFC 1035, section 4.1.1)
-    6: "YXDOMAIN",  # A name exists that should not (RFC 2136, section 2.2)
-    7: "YXRRSET",  # Records exist that should not (RFC 2136, section 2.2)
-    8: "NXRRSET",  # Records do not exist that should (RFC 2136, section 2.2)
-    9: "NOTAUTH",  # The server is not authoritative, or the request is not authorized (RFC 2136, section 2.2; RFC 8945, section 5.2)
-    10: "NOTZONE",  # A name is not in the zone (RFC 2136, section 2.2)
-    11: "DSOTYPENI",  # The server does not support the DSO type (RFC 8490, section 10.2)
-    16: "BADVERS",  # The server does not support the EDNS version (RFC 6891, section 9)
-    17: "BADKEY",  # The key is not known (RFC 8945, section 3)
-    18: "BADTIME",  # The time of the signature is out of range (RFC 8945, section 3)
-    19: "BADMODE",  # The mode of TKEY is not known (RFC 2930, section 2.6)
-    20: "BADNAME",  # The name of the key is taken (RFC 2930, section 2.6)
-    21: "BADALG",  # The algorithm is not known (RFC 2930, section 2.6)
-    22: "BADTRUNC",  # The signature was truncated too much (RFC 8945, section 3)
-    23: "BADCOOKIE",  # The server cookie is bad or missing (RFC 7873, section 8)
-}
-# made until here
-
-
-class OpCode(_Code):
+class OpCode(_Code, OpCodes):
     """The operation code of a message, four bits, as an `int`. There is a constant for each code that has a name (RFC
     1035, section 4.1.1; RFC 1996; RFC 2136).
 
@@ -292,20 +150,12 @@ class OpCode(_Code):
     (OpCode.UPDATE, True, 'RESERVED7', OpCode.NOTIFY)
     """
 
-    _text_of = staticmethod(_named(_OP_CODES))
-    _code_of = staticmethod(_numbered(_OP_CODES, 15))
+    _text_of = staticmethod(lambda code: OP_CODES.get(code, f"RESERVED{code}"))
+    _code_of = staticmethod(lambda text: _parsed(OP_CODES, 15, text))
     _most = 15
 
-    # made by tools/types from tools/codes.txt
-    QUERY: ClassVar["OpCode"]
-    IQUERY: ClassVar["OpCode"]
-    STATUS: ClassVar["OpCode"]
-    NOTIFY: ClassVar["OpCode"]
-    UPDATE: ClassVar["OpCode"]
-    # made until here
 
-
-class ResponseCode(_Code):
+class ResponseCode(_Code, ResponseCodes):
     """The response code of a message, four bits, or twelve with EDNS, as an `int`. There is a constant for each code
     that has a name (RFC 1035, section 4.1.1; RFC 2136, section 2.2; RFC 6891, section 9; RFC 8945, section 3; RFC 2930,
     section 2.6; RFC 7873, section 8).
@@ -314,46 +164,17 @@ class ResponseCode(_Code):
     (ResponseCode.NXDOMAIN, True, 'BADCOOKIE', ResponseCode.REFUSED)
     """
 
-    _text_of = staticmethod(_named(_RESPONSE_CODES))
-    _code_of = staticmethod(_numbered(_RESPONSE_CODES, 4095))
+    _text_of = staticmethod(lambda code: RESPONSE_CODES.get(code, f"RESERVED{code}"))
+    _code_of = staticmethod(lambda text: _parsed(RESPONSE_CODES, 4095, text))
     _most = 4095
 
-    # made by tools/types from tools/codes.txt
-    NOERROR: ClassVar["ResponseCode"]
-    FORMERR: ClassVar["ResponseCode"]
-    SERVFAIL: ClassVar["ResponseCode"]
-    NXDOMAIN: ClassVar["ResponseCode"]
-    NOTIMP: ClassVar["ResponseCode"]
-    REFUSED: ClassVar["ResponseCode"]
-    YXDOMAIN: ClassVar["ResponseCode"]
-    YXRRSET: ClassVar["ResponseCode"]
-    NXRRSET: ClassVar["ResponseCode"]
-    NOTAUTH: ClassVar["ResponseCode"]
-    NOTZONE: ClassVar["ResponseCode"]
-    DSOTYPENI: ClassVar["ResponseCode"]
-    BADVERS: ClassVar["ResponseCode"]
-    BADKEY: ClassVar["ResponseCode"]
-    BADTIME: ClassVar["ResponseCode"]
-    BADMODE: ClassVar["ResponseCode"]
-    BADNAME: ClassVar["ResponseCode"]
-    BADALG: ClassVar["ResponseCode"]
-    BADTRUNC: ClassVar["ResponseCode"]
-    BADCOOKIE: ClassVar["ResponseCode"]
-    # made until here
+
+def _set_constants(kind: Type[_Code], codes: Mapping[str, int]) -> None:
+    for name, code in codes.items():
+        setattr(kind, name, kind.of(code))
 
 
-def _set_constants(kind: Type[_Code]) -> None:
-    """Sets each declared constant to the code of its name."""
-    for name in kind.__annotations__:
-        if name.isupper() and not hasattr(kind, name):
-            setattr(kind, name, kind.from_text(name.replace("_", "-")))
-
-
-# made by tools/types from crates/dnw_data/specs/Table.antt
-RecordType.ZERO = RecordType(0)
-RecordType.ANAME = RecordType(65305)
-# made until here
-_set_constants(RecordType)
-_set_constants(RecordClass)
-_set_constants(OpCode)
-_set_constants(ResponseCode)
+_set_constants(RecordType, RECORD_TYPES)
+_set_constants(RecordClass, {"IN": 1, "CH": 3, "HS": 4, "NONE": 254, "ANY": 255})
+_set_constants(OpCode, {name: code for code, name in OP_CODES.items()})
+_set_constants(ResponseCode, {name: code for code, name in RESPONSE_CODES.items()})

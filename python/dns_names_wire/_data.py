@@ -1,25 +1,32 @@
 """The data of records: what their classes have in common."""
 
-from ctypes import byref, c_char, c_size_t
+from ctypes import byref
 from functools import partial
 from ipaddress import IPv4Address, IPv6Address
-from typing import TYPE_CHECKING, Annotated, Any, Callable, ClassVar, Dict, Iterable, List, Optional, Tuple, Type, TypeVar, Union
+from typing import TYPE_CHECKING, Any, Callable, ClassVar, Dict, Iterable, List, Optional, Tuple, Type, TypeVar, Union
 
 from . import _checks
+from . import _header as dnw
 from ._checks import Bytes
 from ._codes import RecordType, code_of
-from ._errors import DataTooLong, check, check_fault, check_utf8
-from ._library import FORM_SIZE, NO_ROOM, PrintedRecord, library, taken
+from ._errors import check, check_fault, check_utf8, stored
+from ._library import library
 from ._names import Name, check_ascii, whole_name, whole_wire, wire_of
 from ._table import ALONE_SIZE, FieldValue, Prefix, table_of
 from ._types import TypeSet
 from ._values import Value, dataclass
 
 _Own = TypeVar("_Own", bound="Data")
+_MOST = 65535
 
-# The octets of the longest record, and the initial size of a buffer.
-_MOST = FORM_SIZE + 10 + 65535
-_USUAL_SIZE = 512
+# What a constructor takes for a name, an address, a type, a set of types and texts: the value, or its text, or numbers.
+NameLike = Union[Name, str]
+IPv4Like = Union[IPv4Address, str]
+IPv6Like = Union[IPv6Address, str]
+TypeLike = Union[int, str]
+TypesLike = Iterable[TypeLike]
+StringLike = Union[str, Bytes]
+StringsLike = Union[StringLike, Iterable[StringLike]]
 
 
 def parsed(
@@ -49,26 +56,15 @@ _OTHER_LETTERS = bytes(octet if octet < 128 else ord("x") for octet in range(256
 
 
 def _parsed(parse: Callable[..., int], find: Callable[..., int], text: bytes, origin: Optional[Name]) -> bytes:
-    wire, size, length = b"" if origin is None else whole_wire("origin", origin), _USUAL_SIZE, c_size_t()
-    while True:
-        room = (c_char * size)()
-        number = parse(text, len(text), wire, len(wire), room, size, byref(length))
-        if number != NO_ROOM or size == _MOST:
-            check_fault(number, text, lambda fault: find(text, len(text), wire, len(wire), byref(fault)))
-            return taken(room, length.value)
-        size = _MOST
+    wire = b"" if origin is None else whole_wire("origin", origin)
+    given = text, len(text), wire, len(wire)
+    return stored(parse, *given, failed=lambda number: check_fault(number, text, lambda fault: find(*given, byref(fault))))
 
 
 def printed(message: bytes, start: int) -> str:
     """Returns the line of the record at an offset of a message."""
-    size, result = _USUAL_SIZE, PrintedRecord()
-    while True:
-        room = (c_char * size)()
-        number = library.dnw_record_print(message, len(message), start, room, size, byref(result))
-        if number != NO_ROOM:
-            check(number, start)
-            return taken(room, result.len).decode("ascii")
-        size *= 4
+    failed = partial(check, offset=start)
+    return stored(library.dnw_record_print, message, len(message), start, result=dnw.PrintedRecord(), failed=failed).decode("ascii")
 
 
 def data_from_wire(record_type: "TypeLike", octets: Bytes) -> "Data":
@@ -84,8 +80,8 @@ def data_from_wire(record_type: "TypeLike", octets: Bytes) -> "Data":
 
 def _root_record(record_type: int, octets: bytes) -> bytes:
     """Returns the octets of a record of the root, of class IN, with these data. Raises `DataTooLong` if they are too long."""
-    if len(octets) > 65535:
-        raise DataTooLong()
+    if len(octets) > _MOST:
+        check(dnw.DATA_TOO_LONG)
     return b"\0" + record_type.to_bytes(2, "big") + b"\0\1\0\0\0\0" + len(octets).to_bytes(2, "big") + octets
 
 
@@ -124,44 +120,6 @@ def data_from_text(record_type: "TypeLike", text: Union[str, bytes], origin: Opt
     return data_from_wire(code, octets)
 
 
-# The fields of data, each with its letter: numbers of as many octets, a time, a text or octets after a length octet, and up to
-# the end, texts, service parameters, octets after a length of two octets, octets whose first ones say what follows
-# them, address prefixes, and names in their wire form.
-U8 = Annotated[int, "1"]
-U16 = Annotated[int, "2"]
-U32 = Annotated[int, "4"]
-U48 = Annotated[int, "6"]
-U64 = Annotated[int, "8"]
-Time = Annotated[int, "T"]
-String = Annotated[bytes, "s"]
-RestString = Annotated[bytes, "x"]
-Counted = Annotated[bytes, "c"]
-Rest = Annotated[bytes, "o"]
-Strings = Annotated[Tuple[bytes, ...], "S"]
-Params = Annotated[Tuple[Tuple[int, bytes], ...], "P"]
-Long = Annotated[bytes, "l"]
-Shaped = Annotated[bytes, "g"]
-Prefixes = Annotated[Tuple[Prefix, ...], "p"]
-WholeNames = Annotated[Tuple[Name, ...], "N"]
-
-# The letters of fields that are known by their Python type: a name, addresses, a record type and a type bitmap.
-_LETTERS: Dict[Any, str] = {Name: "n", IPv4Address: "i", IPv6Address: "I", RecordType: "t", TypeSet: "B"}
-
-# What a constructor takes for a name, an address, a type, a set of types and texts: the value, or its text, or numbers.
-NameLike = Union[Name, str]
-IPv4Like = Union[IPv4Address, str]
-IPv6Like = Union[IPv6Address, str]
-TypeLike = Union[int, str]
-TypesLike = Iterable[TypeLike]
-StringLike = Union[str, Bytes]
-StringsLike = Union[StringLike, Iterable[StringLike]]
-
-
-def _letter(annotation: Any) -> str:
-    letter: str = getattr(annotation, "__metadata__", [_LETTERS.get(annotation, "")])[0]
-    return letter
-
-
 class Data(Value):
     """The data of a record. There is a subclass for each type, with the fields and the methods of a frozen dataclass.
 
@@ -176,24 +134,16 @@ class Data(Value):
     10 mail.example. "v=spf1 -all"
     """
 
-    # The code of the type, if the class has one, and the letters of the fields, from their annotations.
+    # The code of the type, if the class has one, and the letters of the fields.
     _code: ClassVar[Optional[int]] = None
     _kinds: ClassVar[str] = ""
-
-    def __init_subclass__(cls, code: Optional[int] = None) -> None:
-        super().__init_subclass__()
-        if code is not None:
-            cls._code, CLASSES[code] = code, cls
-        own = cls.__annotations__
-        if cls._names and cls._names[0] in own:
-            cls._kinds = "".join([_letter(own[name]) for name in cls._names])
 
     if not TYPE_CHECKING:
 
         def __init__(self, *values, **named):
             own = self.__dict__
             for name, kind, value in zip(self._names, self._kinds, self._given(values, named)):
-                own[name] = _TAKEN[kind](name, value)
+                own[name] = _KINDS[kind][1](name, value)
 
     @property
     def record_type(self) -> RecordType:
@@ -203,7 +153,7 @@ class Data(Value):
     def to_wire(self) -> bytes:
         """Returns the octets, without compression."""
         own = self.__dict__
-        return b"".join([_PUT[kind](own[name]) for name, kind in zip(self._names, self._kinds)])
+        return b"".join([_KINDS[kind][2](own[name]) for name, kind in zip(self._names, self._kinds)])
 
     def to_text(self) -> str:
         """Returns the text in master files: in the form of the type, or in that of any data, `\\# 4 0A000001` (RFC
@@ -248,16 +198,13 @@ class Data(Value):
         return data
 
 
-#: The class for the data of each type, by its code.
-CLASSES: Dict[int, Type[Data]] = {}
-
-
 @dataclass(frozen=True)
 class Unknown(Data):
     """Data of a type that has no class of its own, or that are not those of its class."""
 
     of_type: RecordType
-    octets: Rest
+    octets: bytes
+    _kinds = "to"
 
     if TYPE_CHECKING:
         def __init__(self, of_type: TypeLike, octets: Bytes) -> None: ...
@@ -273,22 +220,25 @@ class Unknown(Data):
 
 
 def _take_number(octets: int) -> Callable[[str, Any], int]:
-    most = 256**octets - 1
-    return lambda name, value: _checks.number(name, value, most)
+    return lambda name, value: _checks.number(name, value, 256**octets - 1)
 
 
-def _take_octets(most: Optional[int]) -> Callable[[str, Any], bytes]:
+def _put_number(octets: int) -> Callable[[int], bytes]:
+    return lambda value: int.to_bytes(value, octets, "big")
+
+
+def _take_octets(most: int) -> Callable[[str, Any], bytes]:
     def take(name: str, value: Any) -> bytes:
         octets = _checks.octets(name, value)
-        if most is not None and len(octets) > most:
-            raise DataTooLong()
+        if len(octets) > most:
+            check(dnw.DATA_TOO_LONG)
         return octets
 
     return take
 
 
-_take_octet, _take_code, _take_any = _take_number(1), _take_number(2), _take_octets(None)
-_take_counted = _take_octets(255)
+# The last field of data may have more octets than data have: a record has no room for them.
+_take_any, _take_counted = _take_octets(1 << 62), _take_octets(255)
 
 
 def _take_text(name: str, value: Any) -> bytes:
@@ -314,37 +264,15 @@ def _take_prefix(name: str, prefix: Prefix) -> Prefix:
     family, length, is_negated, value = prefix
     octets = _take_any(name, value)
     _checks.number(name, len(octets), 127)
-    return _take_code(name, family), _take_octet(name, length), bool(is_negated), octets
+    return _checks.number(name, family, _MOST), _checks.number(name, length, 255), bool(is_negated), octets
 
 
 def take_pairs(name: str, pairs: Any) -> Tuple[Tuple[int, bytes], ...]:
     """Takes service parameters or options: pairs of a key and its octets."""
-    taken_pairs = tuple((_take_code(name, key), _take_any(name, value)) for key, value in pairs)
-    for _, value in taken_pairs:
-        _checks.number(name, len(value), 65535)
-    return taken_pairs
-
-
-# Functions that check what a constructor is given for a field, by its letter, and return the value of the field.
-_TAKEN: Dict[str, Callable[[str, Any], Any]] = {
-    **{str(octets): _take_number(octets) for octets in (1, 2, 4, 6, 8)},
-    "n": whole_name,
-    "i": lambda name, value: value if isinstance(value, IPv4Address) else IPv4Address(value),
-    "I": lambda name, value: value if isinstance(value, IPv6Address) else IPv6Address(value),
-    "t": lambda name, value: code_of(RecordType, name, value),
-    "T": _take_number(4),
-    "s": _take_string,
-    "x": _take_text,
-    "c": _take_counted,
-    "o": _take_any,
-    "S": _take_strings,
-    "B": lambda name, value: value if isinstance(value, TypeSet) else TypeSet(value),
-    "P": take_pairs,
-    "l": _take_octets(65535),
-    "g": _take_any,
-    "p": lambda name, value: tuple(_take_prefix(name, prefix) for prefix in value),
-    "N": lambda name, value: tuple(whole_name(name, one) for one in value),
-}
+    found = tuple((_checks.number(name, key, _MOST), _take_any(name, value)) for key, value in pairs)
+    for _, value in found:
+        _checks.number(name, len(value), _MOST)
+    return found
 
 
 def _put_string(value: bytes) -> bytes:
@@ -358,39 +286,52 @@ def _put_prefix(prefix: Prefix) -> bytes:
 
 def put_pairs(pairs: Iterable[Tuple[int, bytes]]) -> bytes:
     """Returns the octets of service parameters or options, each a key and its octets."""
-    return b"".join(key.to_bytes(2, "big") + len(value).to_bytes(2, "big") + value for key, value in pairs)
+    return b"".join([part for key, value in pairs for part in (key.to_bytes(2, "big"), len(value).to_bytes(2, "big"), value)])
 
 
-# Functions that return the octets of the value of a field, by its letter.
-_PUT: Dict[str, Callable[[Any], bytes]] = {
-    "1": lambda value: int.to_bytes(value, 1, "big"),
-    "2": lambda value: int.to_bytes(value, 2, "big"),
-    "4": lambda value: int.to_bytes(value, 4, "big"),
-    "6": lambda value: int.to_bytes(value, 6, "big"),
-    "8": lambda value: int.to_bytes(value, 8, "big"),
-    "n": lambda value: wire_of("name", value)[0],
-    "i": lambda value: bytes(value.packed),
-    "I": lambda value: bytes(value.packed),
-    "t": lambda value: int.to_bytes(value, 2, "big"),
-    "T": lambda value: int.to_bytes(value, 4, "big"),
-    "s": _put_string,
-    "x": bytes,
-    "c": _put_string,
-    "o": bytes,
-    "S": lambda value: b"".join([_put_string(text) for text in value]),
-    "B": TypeSet.to_bitmap,
-    "P": put_pairs,
-    "l": lambda value: b"".join([len(value).to_bytes(2, "big"), value]),
-    "g": bytes,
-    "p": lambda value: b"".join([_put_prefix(prefix) for prefix in value]),
-    "N": lambda value: b"".join([wire_of("name", one)[0] for one in value]),
+def _each(one: Callable[..., Any], join: Callable[[List[Any]], Any]) -> Callable[..., Any]:
+    """Returns a function that joins what another one makes of each item of its last argument."""
+    return lambda *given: join([one(*given[:-1], item) for item in given[-1]])
+
+
+def _address(kind: Callable[[Any], Any]) -> Callable[[str, Any], Any]:
+    return lambda name, value: value if type(value) is kind else kind(value)
+
+
+_Kind = Tuple[Any, Callable[[str, Any], Any], Callable[[Any], Any], Tuple[int, ...]]
+# What a field is, by the letter of its kind, which tools/type_tables/bound.py gives it: its type; functions that check what a
+# constructor is given for it, and that return its octets; and its kinds in dns_names_wire.h.
+_KINDS: Dict[str, _Kind] = {
+    **{str(octets): (int, _take_number(octets), _put_number(octets), (2,)) for octets in (1, 2, 4, 6, 8)},
+    "T": (int, _take_number(4), _put_number(4), (6,)),
+    "t": (RecordType, partial(code_of, RecordType), _put_number(2), (5,)),
+    "n": (Name, whole_name, lambda value: wire_of("name", value)[0], (1,)),
+    "i": (IPv4Address, _address(IPv4Address), lambda value: value.packed, (3,)),
+    "I": (IPv6Address, _address(IPv6Address), lambda value: value.packed, (4,)),
+    "s": (bytes, _take_string, _put_string, (7,)),
+    "x": (bytes, _take_text, bytes, (7,)),
+    "c": (bytes, _take_counted, _put_string, (8,)),
+    "l": (bytes, _take_octets(_MOST), lambda value: len(value).to_bytes(2, "big") + value, (8,)),
+    "o": (bytes, _take_any, bytes, (8,)),
+    "g": (bytes, _take_any, bytes, (12, 13, 14, 15, 18)),
+    "S": (Tuple[bytes, ...], _take_strings, _each(_put_string, b"".join), (9,)),
+    "B": (TypeSet, lambda name, value: value if type(value) is TypeSet else TypeSet(value), TypeSet.to_bitmap, (10,)),
+    "P": (Tuple[Tuple[int, bytes], ...], take_pairs, put_pairs, (11,)),
+    "p": (Tuple[Prefix, ...], _each(_take_prefix, tuple), _each(_put_prefix, b"".join), (16,)),
+    "N": (Tuple[Name, ...], _each(whole_name, tuple), _each(lambda name: wire_of("name", name)[0], b"".join), (17,)),
 }
 
-# The kinds that dns_names_wire.h has for each letter.
-_KINDS = {
-    **dict.fromkeys("12468", {2}), "n": {1}, "i": {3}, "I": {4}, "t": {5}, "T": {6}, "s": {7}, "x": {7}, "c": {8}, "o": {8},
-    "S": {9}, "B": {10}, "P": {11}, "l": {8}, "g": {12, 13, 14, 15, 18}, "p": {16}, "N": {17},
-}  # fmt: skip
+
+def class_of(name: str, code: int, fields: str, about: str) -> Type[Data]:
+    """Makes the class of the data of a type, which has these fields, each with the letter of its kind."""
+    if name in ("DNSKEY", "CDNSKEY"):
+        from ._dnssec import Key as base
+    else:
+        base = Data  # type: ignore[misc, assignment]
+    own = dict(field.split(":") for field in fields.split())
+    types = {field: _KINDS[letter][0] for field, letter in own.items()}
+    made: Dict[str, Any] = {"_code": code, "_kinds": "".join(own.values()), "__annotations__": types, "__doc__": about}
+    return type(name, (base,), {**made, "__module__": f"{__package__}._rdata"})
 
 
 # The class of data of a type with fields of these kinds, if it is known already, or None if they are those of no class.
@@ -400,10 +341,10 @@ _CLASSES_OF: Dict[Tuple[int, Tuple[int, ...]], Optional[Type[Data]]] = {}
 def _class_of(record_type: int, kinds: Tuple[int, ...]) -> Optional[Type[Data]]:
     """Returns the class of data of a type with fields of these kinds, if they are those of the class. In another class than
     IN a type may have other fields, or none."""
-    kind = CLASSES.get(record_type)
-    if kind is None:
-        return None
+    from . import _rdata
+
+    kind: Any = getattr(_rdata, _rdata.NAMES.get(record_type, "Unknown"), Unknown)
     letters = kind._kinds
-    fits = len(letters) == len(kinds) and all(own in _KINDS[letter] for letter, own in zip(letters, kinds))
+    fits = kind is not Unknown and len(letters) == len(kinds) and all(own in _KINDS[letter][3] for letter, own in zip(letters, kinds))
     found = _CLASSES_OF[record_type, kinds] = kind if fits else None
     return found

@@ -1,13 +1,14 @@
 """The sums that DNSSEC makes: key tags, digests of keys and of zones, hashed names, and which names a record covers."""
 
-from ctypes import byref, c_bool, c_char, c_size_t, c_uint16
-from typing import TYPE_CHECKING, Callable, Iterable, Optional, Union
+from ctypes import byref, c_bool, c_uint16
+from typing import TYPE_CHECKING, Callable, Iterable, Union
 
+from . import _header as dnw
 from ._checks import Bytes, number, octets, wrong_type
 from ._codes import RecordType
 from ._data import Data, NameLike
-from ._errors import NotDnskey, check
-from ._library import DIGEST_SIZE, NSEC3_HASH_SIZE, NSEC3_LABEL_SIZE, library, taken
+from ._errors import check, stored
+from ._library import library
 from ._names import whole_name
 from ._records import Record, own_record
 
@@ -57,7 +58,7 @@ def _key(what: str, key: KeyLike) -> bytes:
         return octets(what, key)
     record = own_record(what, key)
     if record.record_type not in (RecordType.DNSKEY, RecordType.CDNSKEY):
-        check(NotDnskey.number)
+        check(dnw.NOT_DNSKEY)
     return record.raw_data
 
 
@@ -86,7 +87,7 @@ def ds(dnskey: Record, digest_type: int = 2) -> "DS":
     record = own_record("dnskey", dnskey)
     data = record.data
     if not isinstance(data, Key):
-        check(NotDnskey.number)
+        check(dnw.NOT_DNSKEY)
         raise wrong_type("dnskey", "a record of a key is", data)
     return data.ds(record.owner, digest_type)
 
@@ -103,9 +104,7 @@ def ds_digest(owner: NameLike, dnskey: KeyLike, digest_type: int) -> bytes:
     """
     wire = whole_name("owner", owner).wire
     own, code = _key("dnskey", dnskey), number("digest_type", digest_type, 255)
-    digest, length = (c_char * DIGEST_SIZE)(), c_size_t()
-    check(library.dnw_ds_digest(wire, len(wire), own, len(own), code, digest, DIGEST_SIZE, byref(length)))
-    return taken(digest, length.value)
+    return stored(library.dnw_ds_digest, wire, len(wire), own, len(own), code)
 
 
 def nsec3_hash(name: NameLike, iterations: int, salt: Bytes, max_iterations: int, algorithm: int = 1) -> bytes:
@@ -118,7 +117,7 @@ def nsec3_hash(name: NameLike, iterations: int, salt: Bytes, max_iterations: int
     >>> nsec3_hash("example.", 12, bytes.fromhex("aabbccdd"), 100).hex()
     '065368abeed7ec6e9feba96b8c8bc3e8b791f716'
     """
-    return _hashed(library.dnw_nsec3_hash, NSEC3_HASH_SIZE, name, iterations, salt, max_iterations, algorithm)
+    return _hashed(library.dnw_nsec3_hash, name, iterations, salt, max_iterations, algorithm)
 
 
 def nsec3_label(name: NameLike, iterations: int, salt: Bytes, max_iterations: int, algorithm: int = 1) -> str:
@@ -130,20 +129,15 @@ def nsec3_label(name: NameLike, iterations: int, salt: Bytes, max_iterations: in
     >>> nsec3_label("example.", 12, bytes.fromhex("aabbccdd"), 100)
     '0p9mhaveqvm6t7vbl5lop2u3t2rp3tom'
     """
-    label = _hashed(library.dnw_nsec3_label, NSEC3_LABEL_SIZE, name, iterations, salt, max_iterations, algorithm)
-    return label.decode("ascii")
+    return _hashed(library.dnw_nsec3_label, name, iterations, salt, max_iterations, algorithm).decode("ascii")
 
 
-def _hashed(
-    call: Callable[..., int], room_size: int, name: NameLike, iterations: int, salt: Bytes, max_iterations: int, algorithm: int
-) -> bytes:
+def _hashed(call: Callable[..., int], name: NameLike, iterations: int, salt: Bytes, max_iterations: int, algorithm: int) -> bytes:
     """What a function of the library stores of a name that is hashed so."""
     wire = whole_name("name", name).wire
     most = number("max_iterations", max_iterations, 65535)
     own, rounds = octets("salt", salt), number("iterations", iterations, 65535)
-    code, room, length = number("algorithm", algorithm, 255), (c_char * room_size)(), c_size_t()
-    check(call(wire, len(wire), code, rounds, own, len(own), most, room, room_size, byref(length)))
-    return taken(room, length.value)
+    return stored(call, wire, len(wire), number("algorithm", algorithm, 255), rounds, own, len(own), most)
 
 
 def nsec_covers(owner: NameLike, next_name: NameLike, name: NameLike) -> bool:
@@ -196,6 +190,4 @@ def zone_digest(apex: NameLike, records: Iterable[Record], algorithm: int) -> by
     wire = whole_name("apex", apex).wire
     code = number("algorithm", algorithm, 255)
     whole = b"".join([own_record("records", record).to_wire() for record in records])
-    digest, length = (c_char * DIGEST_SIZE)(), c_size_t()
-    check(library.dnw_zone_digest(wire, len(wire), whole, len(whole), code, digest, DIGEST_SIZE, byref(length)))
-    return taken(digest, length.value)
+    return stored(library.dnw_zone_digest, wire, len(wire), whole, len(whole), code)

@@ -1,57 +1,46 @@
 """Whole messages, which are checked once."""
 
+import os
 import struct
-from ctypes import Array, addressof, byref, c_bool, c_char
+from ctypes import addressof, byref, c_bool
 from functools import lru_cache
-from typing import TYPE_CHECKING, Any, Callable, Dict, Iterable, List, Optional, Tuple, Type
+from typing import TYPE_CHECKING, Any, Callable, Dict, Iterable, List, NamedTuple, NoReturn, Optional, Tuple, final
 
 from . import _checks
+from . import _header as dnw
 from ._checks import Bytes
 from ._codes import OpCode, RecordClass, RecordType, ResponseCode, code_of
-from ._data import NameLike, TypeLike, put_pairs
-from ._errors import SECTIONS, DataTooLong, check, check_item
-from ._library import (
-    ROOM_SIZE,
-    MessageFault,
-    Packed,
-    PrintedPart,
-    Room,
-    by_address,
-    give_back,
-    library,
-    room_of,
-    take_free,
-    taken,
-)
-from ._library import Edns as ReadEdns
-from ._library import Message as Read
-from ._library import Writer
-from ._names import Name, whole_name
+from ._data import NameLike, TypeLike, put_pairs, take_pairs
+from ._errors import SECTIONS, check, check_item
+from ._library import ROOM_SIZE, by_address, give_back, library, room_of, take_room, taken
+from ._names import Name, whole_name, whole_wire
 from ._options import EdnsOption, OptionLike, options_of
-from ._records import Record, record_at
+from ._records import Record, own_record, record_at
 from ._sets import RRset, rrsets
 from ._table import Table, read_table
 from ._values import Value, dataclass
 
 # The type and the class of a question.
 _CODES = struct.Struct("!HH")
-# The octets of an OPT record without options.
-_OPT_SIZE = 11
 # The id, the flags and the codes, and the counts of a header; and the first two of these.
 _HEADER = struct.Struct("!HHHHHH")
 _head_of: Any = struct.Struct("!HH").unpack_from
-_HEADER_SIZE = 12
-# The first octets of the items of a list, by enum dnw_list_item in dns_names_wire.h.
-ANSWER_ITEM, _AUTHORITY, _ADDITIONAL, _REQUIRED = b"\1", b"\2", b"\3", b"\x23"
+# The first octets of the items of a list.
+ANSWER_ITEM, _AUTHORITY, _ADDITIONAL = bytes([dnw.LIST_ANSWER]), bytes([dnw.LIST_AUTHORITY]), bytes([dnw.LIST_ADDITIONAL])
+_REQUIRED = bytes([dnw.LIST_ADDITIONAL | dnw.LIST_REQUIRED])
 _MOST = 65535
 # The bytes of most texts of messages.
 _USUAL_TEXT = 2048
-_MAX_POINTERS = 65536
-_MOST_ITEMS = ROOM_SIZE - _HEADER_SIZE
-_message_write = by_address("dnw_message_write", 11)
-_writer_query = by_address("dnw_writer_query", 11)
-_writer_reply = by_address("dnw_writer_reply", 9)
 _MOST_POINTERS = 2**64 - 1
+_message_pack, _message_write = by_address("dnw_message_pack"), by_address("dnw_message_write")
+_writer_query, _writer_reply = by_address("dnw_writer_query"), by_address("dnw_writer_reply")
+# The arguments that are records.
+_ARGUMENTS = ("answers", "authorities", "required", "additionals")
+# The flags of a header, the fields that they are, and their bits.
+_FLAGS = (
+    ("QR", "is_response", 15), ("AA", "authoritative", 10), ("TC", "truncation", 9), ("RD", "recursion_desired", 8),
+    ("RA", "recursion_available", 7), ("AD", "authentic_data", 5), ("CD", "checking_disabled", 4),
+)  # fmt: skip
 
 
 @dataclass(frozen=True)
@@ -75,30 +64,14 @@ class Header(Value):
     @property
     def flags(self) -> Tuple[str, ...]:
         """The names of the flags that are set, in the order of their bits."""
-        named = [
-            ("QR", self.is_response),
-            ("AA", self.authoritative),
-            ("TC", self.truncation),
-            ("RD", self.recursion_desired),
-            ("RA", self.recursion_available),
-            ("AD", self.authentic_data),
-            ("CD", self.checking_disabled),
-        ]
-        return tuple(name for name, is_set in named if is_set)
+        return tuple([name for name, field, _ in _FLAGS if getattr(self, field)])
 
-    def _flags(self) -> int:
-        """Returns the flags and codes, with the low four bits of the response code."""
-        return (
-            bool(self.is_response) << 15
-            | _checks.number("op_code", self.op_code, 15) << 11
-            | bool(self.authoritative) << 10
-            | bool(self.truncation) << 9
-            | bool(self.recursion_desired) << 8
-            | bool(self.recursion_available) << 7
-            | bool(self.authentic_data) << 5
-            | bool(self.checking_disabled) << 4
-            | self.response_code & 15
-        )
+
+def flags_of(header: Header) -> int:
+    """Returns the flags and codes of a header, with the low four bits of the response code."""
+    code = _checks.number("response_code", header.response_code, 4095) & 15
+    bits = [bool(getattr(header, field)) << bit for _, field, bit in _FLAGS]
+    return sum(bits) | _checks.number("op_code", header.op_code, 15) << 11 | code
 
 
 # The questions of a message, and the records of each section.
@@ -160,48 +133,50 @@ class Edns(Value):
         if self.options != ():
             self.__dict__["options"] = options_of("options", self.options)
 
-    def _record(self, code: int) -> bytes:
-        """Returns the OPT record (RFC 6891, section 6.1.2), with the high bits of a response code."""
-        version = _checks.number("version", self.version, 255)
-        return _opt_record(*self._said(), code >> 4, version, bool(self.dnssec_ok))
 
-    def _reply_record(self, asked: ReadEdns) -> bytes:
-        """Returns the OPT record of a reply to a request that asks this, or no octets."""
-        return _opt_of_reply(*self._said(), asked.is_present, asked.dnssec_ok, asked.response_code)
-
-    def _said(self) -> Tuple[int, bytes]:
-        """Returns the size of messages, and the octets of the options."""
-        options = put_pairs(self.options)
-        if len(options) > _MOST:
-            raise DataTooLong()
-        return _checks.number("max_payload", self.max_payload, _MOST), options
+def said_by(edns: Edns) -> Tuple[int, bytes]:
+    """Returns the size of messages that EDNS says, and the octets of its options."""
+    options = put_pairs(take_pairs("options", edns.options))
+    if len(options) > _MOST:
+        check(dnw.DATA_TOO_LONG)
+    return _checks.number("max_payload", edns.max_payload, _MOST), options
 
 
-@lru_cache(maxsize=256)
-def _opt_record(payload: int, options: bytes, high: int, version: int, dnssec_ok: bool) -> bytes:
-    """Returns the OPT record that the library writes into a message without other items."""
-    room, writer = _begun(options)
-    last = options, len(options), 0, byref(writer)
-    check(library.dnw_writer_edns(room, len(room), 0, payload, high, version, dnssec_ok, *last))
-    return taken(room, writer.len)[_HEADER_SIZE:]
-
-
-@lru_cache(maxsize=256)
-def _opt_of_reply(payload: int, options: bytes, is_present: bool, dnssec_ok: bool, code: int) -> bytes:
-    """Returns the OPT record that the library writes into a reply without other items, or no octets."""
-    room, writer = _begun(options)
-    asked = ReadEdns(is_present=is_present, dnssec_ok=dnssec_ok, response_code=code)
-    check(library.dnw_writer_reply_edns(room, len(room), byref(asked), payload, options, len(options), 0, byref(writer)))
-    return taken(room, writer.len)[_HEADER_SIZE:]
-
-
-def _begun(options: bytes) -> "Tuple[Array[c_char], Writer]":
-    """Returns a message without items, with room for an OPT record with these options."""
-    room, writer = room_of(_HEADER_SIZE + _OPT_SIZE + len(options)), Writer()
+@lru_cache(maxsize=512)
+def _opt(payload: int, options: bytes, code: int, version: int, dnssec_ok: bool, asked: Optional[bool]) -> bytes:
+    """Returns the OPT record (RFC 6891, section 6.1.2) that the library writes into a message without other items, or no octets. A
+    reply is `asked` for EDNS or not by its request."""
+    room, writer = room_of(dnw.HEADER_SIZE + dnw.EDNS_SIZE + len(options)), dnw.Writer()
     check(library.dnw_writer_begin(room, len(room), len(room), 0, 0, byref(writer)))
-    return room, writer
+    last = options, len(options), 0, byref(writer)
+    if asked is None:
+        check(library.dnw_writer_edns(room, len(room), 0, payload, code >> 4, version, dnssec_ok, *last))
+    else:
+        request = dnw.Edns(is_present=asked, dnssec_ok=dnssec_ok, response_code=code)
+        check(library.dnw_writer_reply_edns(room, len(room), byref(request), payload, *last))
+    return taken(room, writer.len)[dnw.HEADER_SIZE :]
 
 
+def _opt_of(edns: Optional[Edns], code: int) -> bytes:
+    """Returns the OPT record of a message with this response code, or no octets."""
+    if edns is None:
+        return b""
+    return _opt(*said_by(edns), code, _checks.number("version", edns.version, 255), bool(edns.dnssec_ok), None)
+
+
+class _Made(NamedTuple):
+    """What a message was made of: the response code, whether it replies to a request, its questions as items of the list that is
+    written and as values, if these are known, the records of its sections by `_ARGUMENTS`, and its OPT record, or no octets."""
+
+    code: int
+    is_reply: bool
+    asked: bytes
+    questions: Optional[Tuple[Question, ...]]
+    records: Tuple[Tuple[Record, ...], ...]
+    opt: bytes
+
+
+@final
 class Message:
     """A message (RFC 1035, section 4): one that was read and checked as a whole, or one that was made.
 
@@ -229,20 +204,33 @@ class Message:
     b. 60 IN A 192.0.2.1
     """
 
-    __slots__ = ("_head",)
+    __slots__ = ("_head", "_made", "_wire", "_trailing", "_max_pointers", "_table", "_parts")
 
-    # The id and the flags.
+    # The id and the flags; and what the message was made of, or what the library read of it.
     _head: Tuple[int, int]
+    _made: Optional[_Made]
+    _table: Table
+    _trailing: bytes
+    _max_pointers: int
+    # What is made when it is first used.
+    _wire: Optional[bytes]
+    _parts: Optional[_Parts]
 
     def __init__(self) -> None:
         raise TypeError("a Message is made by Message.from_wire, build, query or reply")
 
-    def __init_subclass__(cls) -> None:
-        if cls.__module__ != __name__:
-            raise TypeError("Message has no subclasses")
+    def __init_subclass__(cls) -> NoReturn:
+        raise TypeError("Message has no subclasses")
 
     @classmethod
-    def from_wire(cls, message: Bytes, *, max_pointers: int = _MAX_POINTERS) -> "Message":
+    def _new(cls, head: Tuple[int, int], made: Optional[_Made]) -> "Message":
+        message = object.__new__(cls)
+        message._head, message._made, message._wire, message._parts = head, made, None, None
+        message._trailing, message._max_pointers = b"", dnw.MAX_POINTERS
+        return message
+
+    @classmethod
+    def from_wire(cls, message: Bytes, *, max_pointers: int = dnw.MAX_POINTERS) -> "Message":
         """Reads the message at the start of these octets. More octets may follow.
 
         Raises the exception of the first question or record that is wrong, with its `section`, `item` and `offset`: as
@@ -251,24 +239,23 @@ class Message:
         are too many, there is no item.
         """
         whole = message if type(message) is bytes else _checks.octets("message", message)
-        most = max_pointers if max_pointers is _MAX_POINTERS else _checks.number("max_pointers", max_pointers, _MOST_POINTERS)
+        most = _checks.number("max_pointers", max_pointers, _MOST_POINTERS)
         failure, table = read_table(whole, most)
         if failure:
-            read, fault = Read(), MessageFault()
+            read, fault = dnw.Message(), dnw.MessageFault()
             number = library.dnw_message_read(whole, len(whole), most, byref(read), byref(fault))
             check_item(number, SECTIONS[fault.section], fault.item, fault.offset)
             # The names in data follow too many pointers.
             check(failure)
-        end = _HEADER_SIZE
+        end = dnw.HEADER_SIZE
         for row in reversed(table.rows):
             if row[0]:
                 end = row[5] + row[6]
                 break
-        made = _new_read(_Read)
-        made._head = _head_of(whole)
-        made._wire, made._trailing, made._max_pointers, made._table = whole[:end], whole[end:], most, table
-        made._parts = None
-        return made
+        read_message = cls._new(_head_of(whole), None)
+        read_message._wire, read_message._trailing, read_message._max_pointers = whole[:end], whole[end:], most
+        read_message._table = table
+        return read_message
 
     @classmethod
     def build(
@@ -294,19 +281,15 @@ class Message:
         >>> Message.build(Header(id=7, is_response=True), answers=[record]).to_wire().hex()
         '000780000000000100000000016100000f00010000003c0009000a046d61696cc00c'
         """
-        code = _checks.number("response_code", header.response_code, 4095)
-        number, asked = _checks.number("id", header.id, _MOST), tuple(questions)
-        sections = tuple(answers), tuple(authorities), tuple(required), tuple(additionals)
-        last = () if edns is None else (edns,)
-        for what, count in zip(_PARTS, (asked, sections[0], sections[1], (*sections[2], *sections[3], *last))):
-            _checks.number(f"the number of {what}", len(count), _MOST)
-        items = b"".join([b"\0" + question.to_wire() for question in asked])
-        own = None if edns is None else edns._record(code)
-        made = _new_made(_Made)
-        made._head, made._code, made._is_reply = (number, header._flags()), code, False
-        made._asked, made._opt, made._questions = items, own, asked
-        made._answers, made._authorities, made._required, made._others = sections
-        return made
+        code, number = _checks.number("response_code", header.response_code, 4095), _checks.number("id", header.id, _MOST)
+        asked = tuple(questions)
+        sections = _own_records((answers, authorities, required, additionals))
+        additional = len(sections[2]) + len(sections[3]) + (edns is not None)
+        counts = len(asked), len(sections[0]), len(sections[1]), 0, additional
+        for what, count in zip(("questions", *_ARGUMENTS), counts):
+            _checks.number(f"the number of {what}", count, _MOST)
+        items = b"".join([part for it in asked for part in _question_item(*question_parts("questions", it))])
+        return cls._new((number, flags_of(header)), _Made(code, False, items, asked, sections, _opt_of(edns, code)))
 
     @classmethod
     def query(
@@ -324,26 +307,14 @@ class Message:
         >>> Message.query("a.", RecordType.NS, id=7).to_wire().hex()
         '00070100000100000000000001610000020001'
         """
-        number = _random_id() if id is None else _checks.number("id", id, _MOST)
+        number = int.from_bytes(os.urandom(2), "big") if id is None else _checks.number("id", id, _MOST)
         question, flag = Question(name, record_type, record_class), bool(recursion_desired)
-        wire, codes = question.name.wire, (question.question_type, question.question_class)
-        try:
-            room = take_free()
-        except IndexError:
-            room = Room()
-        failure = _writer_query(
-            room.octets_at, ROOM_SIZE, _MOST, number, flag, wire, len(wire), *codes, 0, room.writer_at
-        )  # fmt: skip
-        if failure:
-            check(failure)
+        wire, *codes = question_parts("name", question)
+        room = take_room()
+        check(_writer_query(room.octets_at, ROOM_SIZE, _MOST, number, flag, wire, len(wire), *codes, 0, room.writer_at))
         head: Any = room.octets[: room.writer.len]
         give_back(room)
-        made = _new_made(_Made)
-        made._head, made._code, made._is_reply = _head_of(head), 0, False
-        made._asked, made._questions = b"\0" + head[12:], (question,)
-        made._opt = None if edns is None else edns._record(0)
-        made._answers = made._authorities = made._required = made._others = ()
-        return made
+        return cls._new(_head_of(head), _Made(0, False, b"\0" + head[12:], (question,), ((),) * 4, _opt_of(edns, 0)))
 
     def reply(
         self,
@@ -373,33 +344,18 @@ class Message:
         <Message 7 QR RD [1, 0, 0, 0]>
         """
         wanted = 0 if response_code is None else _checks.number("response_code", response_code, 4095)
-        flags = 0
-        if authoritative:
-            flags |= 0x400
-        if recursion_available:
-            flags |= 0x80
-        if authentic_data:
-            flags |= 0x20
-        request = self.wire
-        try:
-            room = take_free()
-        except IndexError:
-            room = Room()
-        failure = _writer_reply(
-            room.octets_at, ROOM_SIZE, _MOST, request, len(request), flags, wanted, room.writer_at, room.edns_at
-        )  # fmt: skip
-        if failure:
-            check(failure)
+        flags = bool(authoritative) << 10 | bool(recursion_available) << 7 | bool(authentic_data) << 5
+        sections = _own_records((answers, authorities, required, additionals))
+        request, said = self.wire, _SAID if edns is None else said_by(edns)
+        room = take_room()
+        check(_writer_reply(room.octets_at, ROOM_SIZE, _MOST, request, len(request), flags, wanted, room.writer_at, room.edns_at))
         head: Any = room.octets[: room.writer.len]
         asked = room.edns
         takes_records, code = asked.takes_records, asked.response_code
-        opt = (OF_REPLY if edns is None else edns)._reply_record(asked)
+        opt = _opt(*said, code, 0, asked.dnssec_ok, asked.is_present)
         give_back(room)
-        made = _new_made(_Made)
-        made._head, made._code, made._is_reply, made._opt = _head_of(head), code, True, opt or None
-        made._asked = b"\0" + head[12:] if len(head) > 12 else b""
-        made._answers, made._authorities = tuple(answers), tuple(authorities)
-        made._required, made._others = tuple(required), tuple(additionals)
+        items = b"\0" + head[12:] if len(head) > 12 else b""
+        made = Message._new(_head_of(head), _Made(code, True, items, None, sections, opt))
         return made if takes_records else Message.from_wire(made.wire)
 
     def is_reply_to(self, request: "Message") -> bool:
@@ -437,7 +393,23 @@ class Message:
         >>> Message.from_wire(reply.to_wire()), Message.from_wire(reply.to_wire(65535))
         (<Message 7 QR TC RD [1, 0, 0, 0]>, <Message 7 QR RD [1, 1, 0, 0]>)
         """
-        raise NotImplementedError
+        most, block, room = _checks.number("max_size", max_size, _MOST), _checks.number("block", block, _MOST), take_room()
+        made, octets, place, has = self._made, room.octets, room.octets_at, ROOM_SIZE
+        items = self.wire if made is None else _items_of(made)
+        # An item takes no more octets in a message than in the list, but for padding.
+        if (made is None or block or len(items) > ROOM_SIZE - dnw.HEADER_SIZE) and most > ROOM_SIZE:
+            octets = room_of(most)
+            place, has = addressof(octets), len(octets)
+        if made is None:
+            # The room is a limit too: what has none in it is left out.
+            number = _message_pack(items, len(items), most, block, place, has, room.packed_at)
+        else:
+            head = *self._head, made.code, made.is_reply, block
+            number = _message_write(items, len(items), most, *head, place, has, room.packed_at)
+        check(number)
+        wire: Any = octets[: room.packed.len]
+        give_back(room)
+        return wire  # type: ignore[no-any-return]
 
     def to_text(self) -> str:
         """Returns the lines that `dig` prints, as `str` does: the header, the EDNS fields and options, the questions, and the
@@ -458,10 +430,10 @@ class Message:
 
     def _printed(self, print_part: Callable[..., int]) -> str:
         """Returns the text that a function of the library stores in parts."""
-        octets, part, text, left = self.wire + self.trailing, PrintedPart(), b"", _USUAL_TEXT
+        octets, part, text, left = self.wire + self.trailing, dnw.PrintedPart(), b"", _USUAL_TEXT
         while left:
             room = room_of(left)
-            check(print_part(octets, len(octets), self._pointers(), len(text), room, len(room), byref(part)))
+            check(print_part(octets, len(octets), self._max_pointers, len(text), room, len(room), byref(part)))
             text += taken(room, part.len)
             left = part.total - len(text)
         return text.decode()
@@ -477,33 +449,46 @@ class Message:
     @property
     def questions(self) -> Tuple[Question, ...]:
         """The questions."""
-        raise NotImplementedError
+        return self._sections()[0]
 
     @property
     def answers(self) -> Tuple[Record, ...]:
         """The records of the Answer section."""
-        raise NotImplementedError
+        return self._sections()[1]
 
     @property
     def authorities(self) -> Tuple[Record, ...]:
         """The records of the Authority section."""
-        raise NotImplementedError
+        return self._sections()[2]
 
     @property
     def additionals(self) -> Tuple[Record, ...]:
         """The records of the Additional section, with the OPT record."""
-        raise NotImplementedError
+        return self._sections()[3]
 
     @property
     def wire(self) -> bytes:
         """The octets: of a message that was read as it was read, and of one that was made as `to_wire(65535)` returns
         them."""
-        raise NotImplementedError
+        if self._wire is None:
+            self._wire = self.to_wire(_MOST)
+        return self._wire
 
     @property
     def trailing(self) -> bytes:
         """The octets after a message that was read."""
-        return b""
+        return self._trailing
+
+    def _sections(self) -> _Parts:
+        if self._parts is None:
+            made = self._made
+            if made is None:
+                self._parts = _parts_of(self._table)
+            else:
+                answers, authorities, required, others = made.records
+                own = (Record._made(made.opt),) if made.opt else ()
+                self._parts = _questions_of(made), answers, authorities, (*required, *others, *own)
+        return self._parts
 
     @property
     def answer_sets(self) -> Tuple[RRset, ...]:
@@ -555,14 +540,10 @@ class Message:
         """The response code, with the high bits from the OPT record (RFC 6891, section 6.1.3). Raises as `edns`."""
         return ResponseCode.of(self._read_edns().response_code)
 
-    def _read_edns(self) -> ReadEdns:
-        read = ReadEdns()
-        check(library.dnw_edns_read(self.wire, len(self.wire), self._pointers(), byref(read)))
+    def _read_edns(self) -> dnw.Edns:
+        read = dnw.Edns()
+        check(library.dnw_edns_read(self.wire, len(self.wire), self._max_pointers, byref(read)))
         return read
-
-    def _pointers(self) -> int:
-        """Returns the number of compression pointers that the names may follow."""
-        return _MAX_POINTERS
 
     def __eq__(self, other: object) -> bool:
         if not isinstance(other, Message):
@@ -573,7 +554,7 @@ class Message:
         return hash((self.wire, self.trailing))
 
     def __reduce__(self) -> Tuple[object, Tuple[bytes, int]]:
-        return _read_again, (self.wire + self.trailing, self._pointers())
+        return _read_again, (self.wire + self.trailing, self._max_pointers)
 
     def __str__(self) -> str:
         return self._printed(library.dnw_message_print)
@@ -583,153 +564,48 @@ class Message:
         return f"<Message {self.id} {' '.join(self.flags)} {counts}>"
 
 
-class _Read(Message):
-    """A message that was read. Its questions and records are made when they are first used."""
-
-    __slots__ = ("_wire", "_trailing", "_max_pointers", "_table", "_parts")
-
-    _wire: bytes
-    _trailing: bytes
-    _max_pointers: int
-    _table: Table
-    _parts: Optional[_Parts]
-
-    @property
-    def wire(self) -> bytes:
-        return self._wire
-
-    @property
-    def trailing(self) -> bytes:
-        return self._trailing
-
-    @property
-    def questions(self) -> Tuple[Question, ...]:
-        return self._sections()[0]
-
-    @property
-    def answers(self) -> Tuple[Record, ...]:
-        return self._sections()[1]
-
-    @property
-    def authorities(self) -> Tuple[Record, ...]:
-        return self._sections()[2]
-
-    @property
-    def additionals(self) -> Tuple[Record, ...]:
-        return self._sections()[3]
-
-    def _sections(self) -> _Parts:
-        parts = self._parts
-        if parts is None:
-            parts = self._parts = _parts_of(self._table)
-        return parts
-
-    def _pointers(self) -> int:
-        return self._max_pointers
-
-    def to_wire(self, max_size: int = 512, *, block: int = 0) -> bytes:
-        most, wire, packed = _checks.number("max_size", max_size, _MOST), self._wire, Packed()
-        block = _checks.number("block", block, _MOST)
-        # The room is a limit too: what has none in it is left out.
-        room = room_of(most)
-        check(library.dnw_message_pack(wire, len(wire), most, block, room, len(room), byref(packed)))
-        return taken(room, packed.len)
+def _own_records(sections: Iterable[Iterable[Record]]) -> Tuple[Tuple[Record, ...], ...]:
+    """Returns the records of arguments, each of which has to be one."""
+    found = zip(_ARGUMENTS, sections)
+    return tuple([tuple([record if type(record) is Record else own_record(what, record) for record in its]) for what, its in found])
 
 
-class _Made(Message):
-    """A message that was made. `_asked` is its questions, as items of the list that is written."""
+def question_parts(what: str, question: object) -> Tuple[bytes, int, int]:
+    """Returns the wire form of the name of an argument that has to be a question, its type and its class."""
+    if not isinstance(question, Question):
+        raise _checks.wrong_type(what, "a Question is", question)
+    codes = question.question_type, question.question_class
+    return whole_wire(what, question.name), _checks.number("question_type", codes[0], _MOST), _checks.number("question_class", codes[1], _MOST)
 
-    __slots__ = ("_code", "_is_reply", "_asked", "_answers", "_authorities", "_required", "_others", "_opt", "_questions", "_wire")
 
-    _code: int
-    _is_reply: bool
-    _asked: bytes
-    _answers: Tuple[Record, ...]
-    _authorities: Tuple[Record, ...]
-    _required: Tuple[Record, ...]
-    _others: Tuple[Record, ...]
-    _opt: Optional[bytes]
-    # What is made when it is first used.
-    _questions: Tuple[Question, ...]
-    _wire: bytes
+def _question_item(wire: bytes, question_type: int, question_class: int) -> Tuple[bytes, bytes, bytes]:
+    return b"\0", wire, _CODES.pack(question_type, question_class)
 
-    @property
-    def wire(self) -> bytes:
-        try:
-            return self._wire
-        except AttributeError:
-            self._wire = self.to_wire(_MOST)
-            return self._wire
 
-    @property
-    def questions(self) -> Tuple[Question, ...]:
-        try:
-            return self._questions
-        except AttributeError:
-            # A reply has one at most.
-            alone = _HEADER.pack(0, 0, 1 if self._asked else 0, 0, 0, 0) + self._asked[1:]
-            self._questions = _parts_of(read_table(alone, _MAX_POINTERS)[1])[0]
-            return self._questions
+def _items_of(made: _Made) -> bytes:
+    """Returns the list of the items of a message."""
+    parts: List[bytes] = [made.asked]
+    for octet, records in zip((ANSWER_ITEM, _AUTHORITY, _REQUIRED, _ADDITIONAL), made.records):
+        for record in records:
+            parts += octet, record._message if record._is_whole else record.to_wire()
+    if made.opt:
+        parts += _ADDITIONAL, made.opt
+    return b"".join(parts)
 
-    @property
-    def answers(self) -> Tuple[Record, ...]:
-        return self._answers
 
-    @property
-    def authorities(self) -> Tuple[Record, ...]:
-        return self._authorities
-
-    @property
-    def additionals(self) -> Tuple[Record, ...]:
-        own = () if self._opt is None else (Record._made(self._opt),)
-        return (*self._required, *self._others, *own)
-
-    def to_wire(self, max_size: int = 512, *, block: int = 0) -> bytes:
-        if block:
-            block = _checks.number("block", block, _MOST)
-        if type(max_size) is not int or not 0 <= max_size <= _MOST:
-            max_size = _checks.number("max_size", max_size, _MOST)
-        parts = [self._asked]
-        add = parts.append
-        for record in self._answers:
-            add(ANSWER_ITEM)
-            add(record._message if record._is_whole else record.to_wire())
-        for record in self._authorities:
-            add(_AUTHORITY)
-            add(record._message if record._is_whole else record.to_wire())
-        for record in self._required:
-            add(_REQUIRED)
-            add(record._message if record._is_whole else record.to_wire())
-        for record in self._others:
-            add(_ADDITIONAL)
-            add(record._message if record._is_whole else record.to_wire())
-        if self._opt is not None:
-            add(_ADDITIONAL)
-            add(self._opt)
-        items = b"".join(parts)
-        size = len(items)
-        try:
-            room = take_free()
-        except IndexError:
-            room = Room()
-        octets, place, has = room.octets, room.octets_at, ROOM_SIZE
-        # An item takes no more octets in a message than in the list, but for padding.
-        if (block or size > _MOST_ITEMS) and max_size > ROOM_SIZE:
-            octets = room_of(max_size)
-            place, has = addressof(octets), len(octets)
-        failure = _message_write(items, size, max_size, *self._head, self._code, self._is_reply, block, place, has, room.packed_at)
-        if failure:
-            check(failure)
-        wire: Any = octets[: room.packed.len]
-        give_back(room)
-        return wire  # type: ignore[no-any-return]
+def _questions_of(made: _Made) -> Tuple[Question, ...]:
+    """Returns the questions of a message that was made. A reply has one at most."""
+    if made.questions is not None:
+        return made.questions
+    alone = _HEADER.pack(0, 0, 1 if made.asked else 0, 0, 0, 0) + made.asked[1:]
+    return _parts_of(read_table(alone, dnw.MAX_POINTERS)[1])[0]
 
 
 def _parts_of(table: Table) -> _Parts:
     """Returns the questions and records of a message by its table."""
     questions: List[Question] = []
     sections: Tuple[List[Record], ...] = ([], [], [])
-    start = _HEADER_SIZE
+    start = dnw.HEADER_SIZE
     for at, row in enumerate(table.rows):
         section = row[0]
         if section == 1:
@@ -745,22 +621,11 @@ def _parts_of(table: Table) -> _Parts:
     return tuple(questions), tuple(answers), tuple(authorities), tuple(additionals)
 
 
-def _random_id() -> int:
-    # Its import takes longer than a query.
-    from secrets import randbelow
-
-    return randbelow(_MOST + 1)
-
-
 def own_message(what: str, message: object) -> Message:
     """Returns an argument that has to be a message. One of a class that only says that it is `Message` is none."""
-    if type(message) is not _Read and type(message) is not _Made:
+    if type(message) is not Message:
         raise _checks.wrong_type(what, "a Message is", message)
     return message
-
-
-_new_read: Callable[[Type[_Read]], _Read] = object.__new__
-_new_made: Callable[[Type[_Made]], _Made] = object.__new__
 
 
 def _read_again(octets: bytes, max_pointers: int) -> Message:
@@ -777,29 +642,24 @@ def _pairs(octets: bytes) -> Tuple[Tuple[int, bytes], ...]:
     return tuple(found)
 
 
-# The words for the items of each section, for errors.
-_PARTS = ("questions", "answers", "authorities", "additionals")
-
-
 def make_query(
     name: NameLike,
     record_type: TypeLike,
     record_class: TypeLike = RecordClass.IN,
     *,
-    want_dnssec: bool = False,
-    payload: Optional[int] = None,
+    dnssec_ok: bool = False,
+    max_payload: Optional[int] = None,
     id: Optional[int] = None,
 ) -> Message:
-    """As `Message.query`, for a name, or a text that the root completes. A `payload`, or `want_dnssec`, which sets DO, adds
+    """As `Message.query`, for a name, or a text that the root completes. A `max_payload`, or `dnssec_ok`, which sets DO, adds
     EDNS.
 
-    >>> print(make_query("www.example", "AAAA", payload=1232).questions[0])
+    >>> print(make_query("www.example", "AAAA", max_payload=1232).questions[0])
     www.example. IN AAAA
     """
     own = Name.absolute(name) if isinstance(name, str) else name
-    edns = None
-    if want_dnssec or payload is not None:
-        edns = Edns(max_payload=Edns.max_payload if payload is None else payload, dnssec_ok=want_dnssec)
+    size = Edns.max_payload if max_payload is None else max_payload
+    edns = None if max_payload is None and not dnssec_ok else Edns(size, dnssec_ok=dnssec_ok)
     return Message.query(own, record_type, record_class, id=id, edns=edns)
 
 
@@ -815,7 +675,7 @@ def make_response(query: Message, *, recursion_available: bool = False) -> Messa
 @lru_cache(maxsize=1024)
 def _fields_of(flags: int) -> Dict[str, Any]:
     """Returns the fields in the second number of a header, as the library reads it."""
-    octets, read, fault = _HEADER.pack(0, flags, 0, 0, 0, 0), Read(), MessageFault()
+    octets, read, fault = _HEADER.pack(0, flags, 0, 0, 0, 0), dnw.Message(), dnw.MessageFault()
     check(library.dnw_message_read(octets, len(octets), 0, byref(read), byref(fault)))
     fields: Dict[str, Any] = {name: getattr(read, name) for name in Header._names}
     fields["op_code"], fields["response_code"] = OpCode.of(read.op_code), ResponseCode.of(read.response_code)
@@ -824,3 +684,4 @@ def _fields_of(flags: int) -> Dict[str, Any]:
 
 # What a reply says by EDNS, if the caller says nothing else.
 OF_REPLY = Edns()
+_SAID = said_by(OF_REPLY)

@@ -1,31 +1,20 @@
 """Names: read, parsed, printed, compared."""
 
-import ctypes
 import warnings
-from ctypes import byref, c_size_t
+from ctypes import byref, c_bool, c_int32, c_size_t
+from functools import total_ordering
 from typing import Any, Callable, Iterable, Iterator, List, NamedTuple, Optional, Tuple, Union, overload
 
 from . import _checks
+from . import _header as dnw
 from ._checks import Bytes
-from ._errors import BytesLeft, IllegalCharacter, check, check_text, check_utf8
-from ._library import (
-    FORM_SIZE,
-    SORT_KEY_SIZE,
-    TEXT_SIZE,
-    Form,
-    ParsedName,
-    ReadName,
-    Text,
-    by_address,
-    give_back,
-    library,
-    take_room,
-    taken,
-)
+from ._errors import check, check_text, check_utf8, failure, stored
+from ._library import Form, by_address, give_back, library, take_room, taken
 
-_sort_key = by_address("dnw_name_sort_key", 5)
+_sort_key = by_address("dnw_name_sort_key")
 
 
+@total_ordering
 class Name:
     """A domain name. `Name("a.b")` is relative and equals no name of a message; `Name("a.b.")` and `Name.absolute("a.b")` do.
 
@@ -86,7 +75,7 @@ class Name:
         whole = _checks.octets("wire", wire)
         name, end = read_name(whole, 0)
         if end != len(whole):
-            check(BytesLeft.number, end)
+            check(dnw.BYTES_LEFT, end)
         return cls._of(name._wire, bool(is_fqdn))
 
     @classmethod
@@ -108,9 +97,8 @@ class Name:
         """
         encoded, own = _checks.text("text", text), b"" if origin is None else whole_wire("origin", origin)
         check_ascii(encoded)
-        form, parsed = Form(), ParsedName()
-        failure = library.dnw_name_parse(encoded, len(encoded), own, len(own), form, FORM_SIZE, byref(parsed))
-        check_text(failure, encoded, own)
+        form, parsed = Form(), dnw.ParsedName()
+        check_text(library.dnw_name_parse(encoded, len(encoded), own, len(own), form, len(form), byref(parsed)), encoded, own)
         return cls._of(taken(form, parsed.len), parsed.is_fqdn)
 
     def to_text(self) -> str:
@@ -245,9 +233,8 @@ class Name:
         return True
 
     def __contains__(self, name: object) -> bool:
-        if not isinstance(name, Name):
-            raise _checks.wrong_type("name", "a Name is", name)
-        return name.is_in(self)
+        wire_of("name", name)
+        return name.is_in(self)  # type: ignore[attr-defined, no-any-return]
 
     def is_in(self, zone: "Name") -> bool:
         """Returns whether the name's last labels are those of the zone, ignoring case (RFC 1034, section 4.2).
@@ -255,7 +242,7 @@ class Name:
         >>> Name("www.Example.com.").is_in(Name("example.com."))
         True
         """
-        is_in = ctypes.c_bool()
+        is_in = c_bool()
         check(library.dnw_name_in_zone(*_slice(self), *wire_of("zone", zone), byref(is_in)))
         return is_in.value
 
@@ -273,9 +260,7 @@ class Name:
 
     def lower(self) -> "Name":
         """Returns the name with its ASCII letters in lower case."""
-        form, length = Form(), ctypes.c_size_t()
-        check(library.dnw_name_to_lowercase(*_slice(self), form, FORM_SIZE, byref(length)))
-        return Name._of(taken(form, length.value), self._is_fqdn)
+        return Name._of(stored(library.dnw_name_to_lowercase, *_slice(self)), self._is_fqdn)
 
     def append(self, suffix: "Name") -> "Name":
         """Returns the name with the labels of another name after its own, fully qualified if the other is. May raise
@@ -284,9 +269,7 @@ class Name:
         >>> Name("www").append(Name("example.com."))
         Name('www.example.com.')
         """
-        form, length = Form(), ctypes.c_size_t()
-        check(library.dnw_name_append(*_slice(self), *wire_of("suffix", suffix), form, FORM_SIZE, byref(length)))
-        return Name._of(taken(form, length.value), suffix._is_fqdn)
+        return Name._of(stored(library.dnw_name_append, *_slice(self), *wire_of("suffix", suffix)), suffix._is_fqdn)
 
     def __add__(self, suffix: object) -> "Name":
         if not isinstance(suffix, Name):
@@ -302,9 +285,7 @@ class Name:
         Name('example.com.')
         """
         octets = _checks.octets("label", label)
-        form, length = Form(), ctypes.c_size_t()
-        check(library.dnw_name_prepend_label(octets, len(octets), *_slice(self), form, FORM_SIZE, byref(length)))
-        return Name._of(taken(form, length.value), self._is_fqdn)
+        return Name._of(stored(library.dnw_name_prepend_label, octets, len(octets), *_slice(self)), self._is_fqdn)
 
     def trim_to(self, labels: int) -> "Name":
         """Returns the name with only the last `labels` labels, or the whole name if it has fewer.
@@ -312,10 +293,8 @@ class Name:
         >>> Name("www.example.com.").trim_to(2)
         Name('example.com.')
         """
-        count = min(_checks.number("labels", labels), FORM_SIZE)
-        form, length = Form(), ctypes.c_size_t()
-        check(library.dnw_name_trim(*_slice(self), count, form, FORM_SIZE, byref(length)))
-        return Name._of(taken(form, length.value), self._is_fqdn)
+        count = min(_checks.number("labels", labels), dnw.FORM_SIZE)
+        return Name._of(stored(library.dnw_name_trim, *_slice(self), count), self._is_fqdn)
 
     def to_wildcard(self) -> "Name":
         """Returns the name with `*` in place of its first label (RFC 4592, section 2.1.1). The root is unchanged.
@@ -323,16 +302,14 @@ class Name:
         >>> Name("www.example.com.").to_wildcard()
         Name('*.example.com.')
         """
-        form, length = Form(), ctypes.c_size_t()
-        check(library.dnw_name_to_wildcard(*_slice(self), form, FORM_SIZE, byref(length)))
-        return Name._of(taken(form, length.value), self._is_fqdn)
+        return Name._of(stored(library.dnw_name_to_wildcard, *_slice(self)), self._is_fqdn)
 
     def compare(self, other: "Name") -> int:
         """Returns -1, 0 or 1 if this name is before, equal to or after the other."""
         others = wire_of("other", other)
         if self._is_fqdn != other._is_fqdn:
             return 1 if self._is_fqdn else -1
-        order = ctypes.c_int32()
+        order = c_int32()
         check(library.dnw_name_compare(*_slice(self), *others, byref(order)))
         return order.value
 
@@ -351,9 +328,7 @@ class Name:
         return _order_of(self)[1:]
 
     def __str__(self) -> str:
-        text, length = Text(), ctypes.c_size_t()
-        check(library.dnw_name_print(*_slice(self), self._is_fqdn, text, TEXT_SIZE, byref(length)))
-        return taken(text, length.value).decode("ascii")
+        return stored(library.dnw_name_print, *_slice(self), _get_is_fqdn(self), size=dnw.TEXT_SIZE).decode("ascii")
 
     def __format__(self, spec: str) -> str:
         return format(str(self), spec)
@@ -373,7 +348,7 @@ class Name:
             return False
         if self._wire == other._wire:
             return True
-        is_equal = ctypes.c_bool()
+        is_equal = c_bool()
         check(library.dnw_name_equal(*_slice(self), *_slice(other), byref(is_equal)))
         return is_equal.value
 
@@ -392,15 +367,6 @@ class Name:
         except (AttributeError, TypeError):
             return _order_of(self) < _order_of(other) if isinstance(other, Name) else NotImplemented
 
-    def __le__(self, other: "Name") -> bool:
-        return _order_of(self) <= _order_of(other) if isinstance(other, Name) else NotImplemented
-
-    def __gt__(self, other: "Name") -> bool:
-        return _order_of(self) > _order_of(other) if isinstance(other, Name) else NotImplemented
-
-    def __ge__(self, other: "Name") -> bool:
-        return _order_of(self) >= _order_of(other) if isinstance(other, Name) else NotImplemented
-
 
 # The slots of a Name are set when it is created, or when they are first used.
 _set_wire: Callable[[Name, bytes], None] = Name.__dict__["_wire"].__set__
@@ -417,9 +383,9 @@ def _order_of(name: Name) -> bytes:
     if order is None:
         # It is called for many names, so it calls as few functions as possible.
         wire, room = _get_wire(name), take_room()
-        failure = _sort_key(wire, len(wire), room.octets_at, SORT_KEY_SIZE, room.length_at)
-        if failure:
-            check(failure)
+        number = _sort_key(wire, len(wire), room.octets_at, dnw.SORT_KEY_SIZE, room.length_at)
+        if number:
+            check(number)
         octets: Any = room.octets[: room.length.value]
         give_back(room)
         order = (b"\1" if _get_is_fqdn(name) else b"\0") + bytes(octets)
@@ -460,7 +426,7 @@ def check_ascii(text: bytes) -> None:
     if not text.isascii():
         check_utf8(text)
         offset = next(offset for offset, octet in enumerate(text) if octet > 127)
-        raise IllegalCharacter("a name has ASCII characters; a label of others has to be given as an A-label", offset)
+        raise failure(dnw.ILLEGAL_CHARACTER, offset, "a name has ASCII characters; a label of others has to be given as an A-label")
 
 
 def sort_names(names: Iterable[Name]) -> List[Name]:
@@ -504,8 +470,8 @@ def read_name(message: Bytes, start: int = 0) -> NameAt:
     NameAt(name=Name('a.b.'), end=7)
     """
     whole, offset = placed(message, start)
-    form, read = Form(), ReadName()
-    check(library.dnw_name_read(whole, len(whole), offset, form, FORM_SIZE, byref(read)), start)
+    form, read = Form(), dnw.ReadName()
+    check(library.dnw_name_read(whole, len(whole), offset, form, len(form), byref(read)), start)
     return NameAt(Name._of(taken(form, read.len), True), read.end)
 
 

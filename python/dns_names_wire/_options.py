@@ -1,17 +1,15 @@
 """EDNS options."""
 
-from ctypes import byref, c_char, c_size_t, c_uint8
-from typing import ClassVar, Dict, Iterable, NamedTuple, Optional, Tuple, Type, Union
+from ctypes import byref, c_uint8
+from typing import Any, Callable, ClassVar, Dict, Iterable, NamedTuple, Optional, Tuple, Type, Union
 
 from . import _checks
+from . import _header as dnw
 from ._data import take_pairs
-from ._errors import check
-from ._library import OptionParts, library, taken
+from ._errors import check, stored
+from ._library import library
 from ._names import Name, whole_name, wire_of
 from ._values import Value, dataclass
-
-# The octets of the cookie of a client, which are more than any other option has before its last part.
-_CLIENT_SIZE = 8
 
 
 class EdnsOption(NamedTuple):
@@ -26,13 +24,17 @@ class EdnsOption(NamedTuple):
     >>> print(EdnsOption(15, b"\\x00\\x0fwhy"))
     EDE: 15 (Blocked): (why)
     >>> EdnsOption(15, b"\\x00\\x0fwhy").data
-    ExtendedError(error_code=15, text='why')
+    ExtendedError(info_code=15, text='why')
     >>> print(EdnsOption(65001, b"a\\n"))
     OPT=65001: 61 0a ("a.")
     """
 
     code: int
     octets: bytes
+
+    def _own(self) -> Tuple[int, bytes, int]:
+        octets = _checks.octets("octets", self.octets)
+        return _checks.number("code", self.code, 65535), octets, len(octets)
 
     @property
     def data(self) -> "OptionData":
@@ -41,19 +43,19 @@ class EdnsOption(NamedTuple):
         Raises `BadData` if no option with its code has so many octets, or these are not the wire form of a name; `BadFamily`
         if a prefix is longer than an address of its family, or an address has a bit after its prefix that is not zero (RFC
         7871, section 6); or `NotUtf8` if a text is not UTF-8 (RFC 8914, section 2)."""
-        code, octets = _checks.number("code", self.code, 65535), _checks.octets("octets", self.octets)
-        parts = OptionParts()
-        check(library.dnw_option_read(code, octets, len(octets), byref(parts)))
+        code, octets, length = self._own()
+        parts = dnw.Option()
+        check(library.dnw_option_read(code, octets, length, byref(parts)))
         own = octets[parts.offset : parts.offset + parts.len]
         kind = _KINDS.get(code)
         return UnknownOption(code, own) if kind is None else kind._of(parts, own)
 
     def __str__(self) -> str:
-        code, octets = _checks.number("code", self.code, 65535), _checks.octets("octets", self.octets)
-        # As many are always enough.
-        room, length = (c_char * (4 * len(octets) + 128))(), c_size_t()
-        check(library.dnw_option_print(code, octets, len(octets), room, len(room), byref(length)))
-        return taken(room, length.value).decode()
+        return stored(library.dnw_option_print, *self._own()).decode()
+
+
+# How the last field of an option is written as octets, by its name and its value, and how it is read.
+_Rest = Tuple[str, Callable[[str, Any], bytes], Callable[[bytes], Any]]
 
 
 class OptionData(Value):
@@ -67,38 +69,50 @@ class OptionData(Value):
     """
 
     code: ClassVar[int]
+    # The greatest number of each field that is a member of `struct dnw_option`, and the field that is the octets after these. If the
+    # first field may be None, the option is empty then.
+    _numbers: ClassVar[Dict[str, int]] = {}
+    _rest: ClassVar[Optional[_Rest]] = None
 
     def option(self) -> EdnsOption:
         """Returns the option that says it. Raises as `EdnsOption.data` does if it breaks a rule of the option."""
-        parts, own = self._parts()
+        (parts, own), code = self._parts(), _checks.number("code", self.code, 65535)
         own = _checks.octets("octets", own)
-        room, length = (c_char * (_CLIENT_SIZE + len(own)))(), c_size_t()
-        check(library.dnw_option_write(self.code, byref(parts), own, len(own), room, len(room), byref(length)))
-        return EdnsOption(self.code, taken(room, length.value))
+        return EdnsOption(code, stored(library.dnw_option_write, code, byref(parts), own, len(own)))
 
     def __str__(self) -> str:
         return str(self.option())
 
     @classmethod
-    def _of(cls, parts: OptionParts, own: bytes) -> "OptionData":
+    def _of(cls, parts: dnw.Option, own: bytes) -> "OptionData":
         """Returns what these parts and the octets after them say."""
-        raise NotImplementedError
+        if cls._may_be_empty() and not parts.is_given:
+            return cls()
+        values = [getattr(parts, name) for name in cls._numbers]
+        return cls(*values, *(() if cls._rest is None else [cls._rest[2](own)]))
 
-    def _parts(self) -> Tuple[OptionParts, bytes]:
+    @classmethod
+    def _may_be_empty(cls) -> bool:
+        return getattr(cls, cls._names[0], 0) is None
+
+    def _parts(self) -> Tuple[dnw.Option, bytes]:
         """Returns the parts, and the octets after them."""
-        raise NotImplementedError
+        own: Dict[str, Any] = self.__dict__
+        if own[self._names[0]] is None and self._may_be_empty():
+            return dnw.Option(), b""
+        parts = dnw.Option(is_given=True, **{name: _checks.number(name, own[name], most) for name, most in self._numbers.items()})
+        return parts, b"" if self._rest is None else self._rest[1](self._rest[0], own[self._rest[0]])
+
+
+def _wire(what: str, name: object) -> bytes:
+    """Returns the wire form of an argument that has to be a fully qualified name, or its text."""
+    return wire_of(what, whole_name(what, name))[0]
 
 
 @dataclass(frozen=True)
 class _Octets(OptionData):
+    _rest = "octets", _checks.octets, bytes
     octets: bytes = b""
-
-    @classmethod
-    def _of(cls, parts: OptionParts, own: bytes) -> OptionData:
-        return cls(own)
-
-    def _parts(self) -> Tuple[OptionParts, bytes]:
-        return OptionParts(), _checks.octets("octets", self.octets)
 
 
 class Nsid(_Octets):
@@ -119,19 +133,12 @@ class ClientSubnet(OptionData):
     given; how many of them the response is for, 0 in a query; and the octets of these bits."""
 
     code = 8
+    _numbers = {"family": 65535, "source": 255, "scope": 255}
+    _rest = "address", _checks.octets, bytes
     family: int
     source: int
     scope: int
     address: bytes
-
-    @classmethod
-    def _of(cls, parts: OptionParts, own: bytes) -> OptionData:
-        return cls(parts.family, parts.source, parts.scope, own)
-
-    def _parts(self) -> Tuple[OptionParts, bytes]:
-        family = _checks.number("family", self.family, 65535)
-        source, scope = _checks.number("source", self.source, 255), _checks.number("scope", self.scope, 255)
-        return OptionParts(family=family, source=source, scope=scope), _checks.octets("address", self.address)
 
 
 @dataclass(frozen=True)
@@ -139,16 +146,8 @@ class Expire(OptionData):
     """The time after which a zone expires, in seconds; None in a query (RFC 7314, section 2)."""
 
     code = 9
+    _numbers = {"seconds": 4294967295}
     seconds: Optional[int] = None
-
-    @classmethod
-    def _of(cls, parts: OptionParts, own: bytes) -> OptionData:
-        return cls(parts.seconds if parts.is_given else None)
-
-    def _parts(self) -> Tuple[OptionParts, bytes]:
-        if self.seconds is None:
-            return OptionParts(), b""
-        return OptionParts(is_given=True, seconds=_checks.number("seconds", self.seconds, 4294967295)), b""
 
 
 @dataclass(frozen=True)
@@ -161,14 +160,14 @@ class Cookie(OptionData):
     server: bytes = b""
 
     @classmethod
-    def _of(cls, parts: OptionParts, own: bytes) -> OptionData:
+    def _of(cls, parts: dnw.Option, own: bytes) -> OptionData:
         return cls(bytes(parts.client), own)
 
-    def _parts(self) -> Tuple[OptionParts, bytes]:
-        client = _checks.octets("client", self.client)
-        if len(client) != _CLIENT_SIZE:
-            raise ValueError(f"client: {len(client)} octets are not {_CLIENT_SIZE}")
-        return OptionParts(client=(c_uint8 * _CLIENT_SIZE)(*client)), _checks.octets("server", self.server)
+    def _parts(self) -> Tuple[dnw.Option, bytes]:
+        client, parts = _checks.octets("client", self.client), dnw.Option()
+        if len(client) != len(parts.client):
+            raise ValueError(f"client: {len(client)} octets are not {len(parts.client)}")
+        return dnw.Option(client=(c_uint8 * len(client))(*client)), _checks.octets("server", self.server)
 
 
 @dataclass(frozen=True)
@@ -176,16 +175,8 @@ class TcpKeepalive(OptionData):
     """How long a connection is kept, in tenths of a second; None in a query (RFC 7828, section 3.1)."""
 
     code = 11
+    _numbers = {"timeout": 65535}
     timeout: Optional[int] = None
-
-    @classmethod
-    def _of(cls, parts: OptionParts, own: bytes) -> OptionData:
-        return cls(parts.timeout if parts.is_given else None)
-
-    def _parts(self) -> Tuple[OptionParts, bytes]:
-        if self.timeout is None:
-            return OptionParts(), b""
-        return OptionParts(is_given=True, timeout=_checks.number("timeout", self.timeout, 65535)), b""
 
 
 @dataclass(frozen=True)
@@ -193,14 +184,8 @@ class Chain(OptionData):
     """The closest trust point, or None to ask whether the server knows this option (RFC 7901, sections 4 and 5.1)."""
 
     code = 13
+    _rest = "name", _wire, Name.from_wire
     name: Optional[Union[Name, str]] = None
-
-    @classmethod
-    def _of(cls, parts: OptionParts, own: bytes) -> OptionData:
-        return cls(Name.from_wire(own) if parts.is_given else None)
-
-    def _parts(self) -> Tuple[OptionParts, bytes]:
-        return OptionParts(), b"" if self.name is None else _wire("name", self.name)
 
 
 @dataclass(frozen=True)
@@ -209,15 +194,10 @@ class ExtendedError(OptionData):
     8914, section 2)."""
 
     code = 15
-    error_code: int
+    _numbers = {"info_code": 65535}
+    _rest = "text", _checks.text, bytes.decode
+    info_code: int
     text: str = ""
-
-    @classmethod
-    def _of(cls, parts: OptionParts, own: bytes) -> OptionData:
-        return cls(parts.info_code, own.decode())
-
-    def _parts(self) -> Tuple[OptionParts, bytes]:
-        return OptionParts(info_code=_checks.number("error_code", self.error_code, 65535)), _checks.text("text", self.text)
 
 
 @dataclass(frozen=True)
@@ -225,14 +205,8 @@ class ReportChannel(OptionData):
     """The domain of an agent that errors are reported to (RFC 9567, section 5)."""
 
     code = 18
+    _rest = "name", _wire, Name.from_wire
     name: Union[Name, str]
-
-    @classmethod
-    def _of(cls, parts: OptionParts, own: bytes) -> OptionData:
-        return cls(Name.from_wire(own))
-
-    def _parts(self) -> Tuple[OptionParts, bytes]:
-        return OptionParts(), _wire("name", self.name)
 
 
 @dataclass(frozen=True)
@@ -241,19 +215,11 @@ class ZoneVersion(OptionData):
     0 for the serial number, and its octets. In a query `labels` is None, and there are no others."""
 
     code = 19
+    _numbers = {"labels": 255, "version_type": 255}
+    _rest = "version", _checks.octets, bytes
     labels: Optional[int] = None
     version_type: int = 0
     version: bytes = b""
-
-    @classmethod
-    def _of(cls, parts: OptionParts, own: bytes) -> OptionData:
-        return cls(parts.labels, parts.version_type, own) if parts.is_given else cls()
-
-    def _parts(self) -> Tuple[OptionParts, bytes]:
-        if self.labels is None:
-            return OptionParts(), b""
-        labels, kind = _checks.number("labels", self.labels, 255), _checks.number("version_type", self.version_type, 255)
-        return OptionParts(is_given=True, labels=labels, version_type=kind), _checks.octets("version", self.version)
 
 
 @dataclass(frozen=True)
@@ -265,14 +231,9 @@ class UnknownOption(OptionData):
 
     def option(self) -> EdnsOption:
         """Returns the option. Raises as `EdnsOption.data` does if its code is one that is known, and it breaks a rule."""
-        option = EdnsOption(_checks.number("code", self.code, 65535), _checks.octets("octets", self.octets))
+        option = EdnsOption(*EdnsOption(self.code, self.octets)._own()[:2])
         option.data
         return option
-
-
-def _wire(what: str, name: object) -> bytes:
-    """Returns the wire form of an argument that has to be a fully qualified name, or its text."""
-    return wire_of(what, whole_name(what, name))[0]
 
 
 # What is taken for an option: what it says, or its code and its octets.

@@ -1,16 +1,17 @@
 """The records of messages."""
 
 import struct
-from ctypes import byref, c_size_t
-from typing import Iterable, Iterator, List, NoReturn, Optional, Tuple, Union, final
+from ctypes import byref
+from functools import partial, total_ordering
+from typing import Any, Iterable, Iterator, List, NoReturn, Optional, Tuple, Union, final
 
 from . import _checks
+from . import _header as dnw
 from ._checks import Bytes
 from ._codes import RecordClass, RecordType, code_of
 from ._data import Data, NameLike, TypeLike, Unknown, data_of, parsed, printed
-from ._errors import DataTooLong, DnsError, MessageCut, NotRrsig, check
-from ._library import FORM_SIZE, NO_ROOM, SORT_KEY_SIZE, Form, library, room_of, taken
-from ._library import Record as Read
+from ._errors import DnsError, check, stored
+from ._library import Form, library, taken
 from ._names import Name, placed, whole_name
 from ._table import ALONE_SIZE, FieldValue, Table, table_of
 
@@ -18,13 +19,13 @@ from ._table import ALONE_SIZE, FieldValue, Table, table_of
 _FIXED = struct.Struct("!HHIH")
 _MOST = 65535
 # The longest time to live (RFC 2181, section 8).
-_MOST_TTL = 2**31 - 1
+MOST_TTL = 2**31 - 1
 # The names of ordinary data grow by no more octets when they are whole.
 _USUAL_GROWTH = 256
-_record_data = library.dnw_record_data
 
 
 @final
+@total_ordering
 class Record:
     """A record of a message, or one that was made (RFC 1035, section 4.1.3).
 
@@ -70,8 +71,8 @@ class Record:
         name = whole_name("owner", owner)
         octets, code = _checks.octets("data", data.to_wire()), code_of(RecordType, "data", data.record_type)
         if len(octets) > _MOST:
-            raise DataTooLong()
-        codes = code_of(RecordClass, "record_class", record_class), _checks.number("ttl", ttl, _MOST_TTL)
+            check(dnw.DATA_TOO_LONG)
+        codes = code_of(RecordClass, "record_class", record_class), _checks.number("ttl", ttl, MOST_TTL)
         self._message, self._start = name.wire + _FIXED.pack(code, *codes, len(octets)) + octets, 0
         self._type, (self._class, self._ttl) = code, codes
         self._end = len(self._message)
@@ -84,12 +85,8 @@ class Record:
     def _made(cls, wire: bytes) -> "Record":
         """Returns the record with this wire form, in which no name is compressed."""
         table = table_of(wire)
-        row, record = table.rows[0], cls.__new__(cls)
-        record._message, record._start = wire, 0
-        record._type, record._class, record._ttl = row[2:5]
-        record._data_offset, record._end = row[5] - ALONE_SIZE, len(wire)
-        record._is_whole, record._table, record._at, record._owner, record._data = True, table, 0, None, None
-        return record
+        _, _, kind, its_class, ttl, data_offset, *_ = table.rows[0]
+        return _record(wire, 0, (kind, its_class, ttl), data_offset - ALONE_SIZE, len(wire), True, table)
 
     @classmethod
     def from_text(cls, text: Union[str, bytes], origin: Optional[Name] = None) -> "Record":
@@ -186,13 +183,8 @@ class Record:
         """Returns the octets of the data, without compression."""
         if self._is_whole:
             return self.raw_data
-        room, length = room_of(self._end - self._data_offset + _USUAL_GROWTH), c_size_t()
-        number = _record_data(self._message, self._end, self._start, room, len(room), byref(length))
-        if number == NO_ROOM:
-            room = room_of(_MOST)
-            number = _record_data(self._message, self._end, self._start, room, len(room), byref(length))
-        check(number, self._data_offset)
-        return taken(room, length.value)
+        size, failed = self._end - self._data_offset + _USUAL_GROWTH, partial(check, offset=self._data_offset)
+        return stored(library.dnw_record_data, self._message, self._end, self._start, size=size, failed=failed)
 
     def data_name(self, skip: int = 0) -> Name:
         """Reads the data after the first `skip` octets as a name: after two for MX, after six for SRV.
@@ -202,11 +194,9 @@ class Record:
         """
         start = self._data_offset + _checks.number("skip", skip)
         if start > self._end:
-            check(MessageCut.number, self._end)
-        form, length = Form(), c_size_t()
-        arguments = self._message, len(self._message), start, self._end - start, form, FORM_SIZE, byref(length)
-        check(library.dnw_record_data_name(*arguments), start)
-        return Name._of(taken(form, length.value), True)
+            check(dnw.MESSAGE_CUT, self._end)
+        given = self._message, len(self._message), start, self._end - start
+        return Name._of(stored(library.dnw_record_data_name, *given, failed=partial(check, offset=start)), True)
 
     def fields(self) -> Tuple[FieldValue, ...]:
         """Returns the fields of the data, by the record's class and type: names, numbers, addresses, octets, tuples of texts,
@@ -243,7 +233,7 @@ class Record:
         '00010d01 00000e10 3b9aca00 3b9aca00 00070161 00016100 00010001 00000e10 0004c000 0201'
         """
         if self._type != RecordType.RRSIG:
-            check(NotRrsig.number)
+            check(dnw.NOT_RRSIG)
         kind = self.fields()[0]
         # The library selects again. Other records are left out here, since their data may not be valid.
         given = [own_record("records", it) for it in records]
@@ -251,9 +241,7 @@ class Record:
         own = self.to_wire()
         wire = own + b"".join(record.to_wire() for record in found)
         # A record is not longer in canonical form, and the signature is left out.
-        room, length = room_of(len(wire)), c_size_t()
-        check(library.dnw_signed_octets(wire, len(wire), len(own), 0, room, len(room), byref(length)))
-        return taken(room, length.value)
+        return stored(library.dnw_signed_octets, wire, len(wire), len(own), 0, size=len(wire))
 
     def sort_key(self) -> bytes:
         """Returns the sort key of the record. Keys compare as records do in canonical order (RFC 4034, section 6): by
@@ -263,10 +251,8 @@ class Record:
         '61006200 00000100 01c00002 01'
         """
         # The names of no data grow by more than two whole names.
-        size = SORT_KEY_SIZE + 5 + self._end - self._data_offset + 2 * FORM_SIZE
-        key, length = room_of(size), c_size_t()
-        check(library.dnw_record_sort_key(self._message, self._end, self._start, key, len(key), byref(length)))
-        return taken(key, length.value)
+        size = dnw.SORT_KEY_SIZE + 5 + self._end - self._data_offset + 2 * dnw.FORM_SIZE
+        return stored(library.dnw_record_sort_key, self._message, self._end, self._start, size=size)
 
     def _order_key(self) -> bytes:
         """Returns what records compare and hash by: the sort key, or, if the data are not the fields of their type, the
@@ -297,21 +283,6 @@ class Record:
             return NotImplemented
         return self._order_key() < other._order_key()
 
-    def __le__(self, other: object) -> bool:
-        if not isinstance(other, Record):
-            return NotImplemented
-        return self._order_key() <= other._order_key()
-
-    def __gt__(self, other: object) -> bool:
-        if not isinstance(other, Record):
-            return NotImplemented
-        return self._order_key() > other._order_key()
-
-    def __ge__(self, other: object) -> bool:
-        if not isinstance(other, Record):
-            return NotImplemented
-        return self._order_key() >= other._order_key()
-
     def __str__(self) -> str:
         return printed(self._message, self._start)
 
@@ -326,22 +297,34 @@ def own_record(what: str, record: object) -> Record:
     return record
 
 
+_new: Any = object.__new__
+
+
+def _record(
+    message: bytes, start: int, fixed: Tuple[int, int, int], data_offset: int, end: int, is_whole: bool, table: Optional[Table] = None,
+    at: int = 0, owner: Optional[Name] = None,
+) -> Record:  # fmt: skip
+    """Returns the record at an offset of a message, whose type, class and TTL are `fixed`."""
+    record: Record = _new(Record)
+    record._message, record._start, record._is_whole, record._table, record._at = message, start, is_whole, table, at
+    record._type, record._class, record._ttl = fixed
+    record._data_offset, record._end, record._owner, record._data = data_offset, end, owner, None
+    return record
+
+
 def record_at(table: Table, at: int, start: int) -> Record:
     """Returns the record at a row of the table of a message, which begins at an offset."""
-    row, record = table.rows[at], Record.__new__(Record)
+    # It is called for each record of a message, so it calls no function.
+    record: Record = _new(Record)
     record._message, record._start, record._is_whole, record._table, record._at = table.message, start, False, table, at
-    _, _, record._type, record._class, record._ttl, data_offset, length, _, _ = row
+    _, _, record._type, record._class, record._ttl, data_offset, length, _, _ = table.rows[at]
     record._data_offset, record._end, record._owner, record._data = data_offset, data_offset + length, None, None
     return record
 
 
 def record_of(wire: bytes, owner: Name, record_type: int, record_class: int, ttl: int, data_offset: int) -> Record:
     """Returns the record with this wire form, in which no name is compressed, of which these are the parts."""
-    record = Record.__new__(Record)
-    record._message, record._start, record._is_whole, record._table, record._at = wire, 0, True, None, 0
-    record._type, record._class, record._ttl = record_type, record_class, ttl
-    record._data_offset, record._end, record._owner, record._data = data_offset, len(wire), owner, None
-    return record
+    return _record(wire, 0, (record_type, record_class, ttl), data_offset, len(wire), True, owner=owner)
 
 
 def read_record(message: Bytes, start: int = 0) -> Record:
@@ -357,14 +340,10 @@ def read_record(message: Bytes, start: int = 0) -> Record:
     (Name('a.b.'), 17)
     """
     whole, offset = placed(message, start)
-    form, read = Form(), Read()
-    check(library.dnw_record_read(whole, len(whole), offset, form, FORM_SIZE, byref(read)), start)
-    record = Record.__new__(Record)
-    record._message, record._start, record._is_whole, record._table, record._at = whole, offset, False, None, 0
-    record._type, record._class, record._ttl = int(read.record_type), int(read.record_class), int(read.ttl)
-    record._data_offset, record._end = int(read.data_offset), int(read.end)
-    record._owner, record._data = Name._of(taken(form, read.owner_len), True), None
-    return record
+    form, read = Form(), dnw.Record()
+    check(library.dnw_record_read(whole, len(whole), offset, form, len(form), byref(read)), start)
+    fixed, owner = (read.record_type, read.record_class, read.ttl), Name._of(taken(form, read.owner_len), True)
+    return _record(whole, offset, fixed, read.data_offset, read.end, False, owner=owner)
 
 
 def records(message: Bytes, start: int) -> Iterator[Record]:

@@ -1,11 +1,12 @@
 """Reverse names of addresses."""
 
 import ipaddress
-from ctypes import byref, c_char, c_size_t
+from ctypes import byref, c_char
 from typing import Union
 
-from ._errors import NotReverse, check
-from ._library import FORM_SIZE, Form, Net, library, taken
+from . import _header as dnw
+from ._errors import check, stored
+from ._library import library, taken
 from ._names import Name, wire_of
 
 Address = Union[ipaddress.IPv4Address, ipaddress.IPv6Address]
@@ -22,9 +23,7 @@ def reverse_name(address: Union[Address, str]) -> Name:
     Name('1.2.0.192.in-addr.arpa.')
     """
     octets = ipaddress.ip_address(address).packed
-    form, length = Form(), c_size_t()
-    check(library.dnw_reverse_name(octets, len(octets), form, FORM_SIZE, byref(length)))
-    return Name._of(taken(form, length.value), True)
+    return Name._of(stored(library.dnw_reverse_name, octets, len(octets)), True)
 
 
 def parse_reverse_name(name: Name) -> Network:
@@ -38,7 +37,7 @@ def parse_reverse_name(name: Name) -> Network:
     """
     wire, length = wire_of("name", name)
     if not name.is_fqdn:
-        check(NotReverse.number)
-    address, net = (c_char * 16)(), Net()
-    check(library.dnw_reverse_parse(wire, length, address, 16, byref(net)))
+        check(dnw.NOT_REVERSE)
+    address, net = (c_char * 16)(), dnw.Net()
+    check(library.dnw_reverse_parse(wire, length, address, len(address), byref(net)))
     return ipaddress.ip_network((taken(address, net.len), net.prefix_len))

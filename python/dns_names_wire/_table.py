@@ -5,10 +5,10 @@ from ctypes import addressof
 from ipaddress import IPv4Address, IPv6Address
 from typing import Any, Callable, Dict, List, Tuple, Union
 
+from . import _header as dnw
 from ._codes import RecordType
-from ._errors import BadData, check, error_text
-from ._library import NO_ROOM, ROOM_SIZE, ROWS_SIZE, by_address, give_back, room_of, take_room, taken
-from ._library import Table as Counts
+from ._errors import check
+from ._library import ROOM_SIZE, ROWS_SIZE, by_address, give_back, room_of, take_room, taken
 from ._names import Name
 from ._types import TypeSet
 
@@ -16,18 +16,9 @@ from ._types import TypeSet
 Prefix = Tuple[int, int, bool, bytes]
 
 FieldValue = Union[
-    Name,
-    int,
-    IPv4Address,
-    IPv6Address,
-    RecordType,
-    bytes,
-    Tuple[bytes, ...],
-    TypeSet,
-    Tuple[Tuple[int, bytes], ...],
-    Tuple[Prefix, ...],
-    Tuple[Name, ...],
-]
+    Name, int, IPv4Address, IPv6Address, RecordType, bytes, Tuple[bytes, ...], TypeSet, Tuple[Tuple[int, bytes], ...],
+    Tuple[Prefix, ...], Tuple[Name, ...],
+]  # fmt: skip
 
 # A row, `struct dnw_row`: section, kind, type, class, number, offset, length, and the place and length of its name among the
 # names.
@@ -96,22 +87,16 @@ class Table:
             if row[0]:
                 break
             if row[1] == _NAME and row[6] != row[8]:
-                raise BadData(error_text(BadData.number))
+                check(dnw.BAD_DATA)
 
 
 # The value of a field of each kind that is no name, number or list, by its number in dns_names_wire.h.
 _VALUES: Dict[int, Callable[[bytes], FieldValue]] = {
+    **dict.fromkeys((7, 8, 12, 13, 14, 15, 18), bytes),
     3: IPv4Address,
     4: IPv6Address,
     5: lambda octets: RecordType.of(_from_bytes(octets, "big")),
     6: lambda octets: _from_bytes(octets, "big"),
-    7: bytes,
-    8: bytes,
-    12: bytes,
-    13: bytes,
-    14: bytes,
-    15: bytes,
-    18: bytes,
 }
 
 # The value of a list of each kind, by its octets and its entries: the number and the octets of each.
@@ -123,7 +108,7 @@ _LISTS: Dict[int, Callable[[bytes, List[Tuple[int, bytes]]], FieldValue]] = {
     17: lambda octets, entries: tuple([Name._of(wire, True) for _, wire in entries]),
 }
 
-_message_table = by_address("dnw_message_table", 8)
+_message_table = by_address("dnw_message_table")
 _row_size = _ROW.size
 _USUAL_ROWS = ROWS_SIZE // _row_size
 
@@ -131,33 +116,17 @@ _USUAL_ROWS = ROWS_SIZE // _row_size
 def read_table(message: bytes, max_pointers: int) -> "Tuple[int, Table]":
     """Returns 0 and the table of a message, or the number of a failure and an empty table."""
     room, size = take_room(), len(message)
-    number = _message_table(
-        message, size, max_pointers, room.rows_at, _USUAL_ROWS, room.octets_at, ROOM_SIZE, room.table_at
-    )  # fmt: skip
-    if number == 0:
-        rows: Any = _ROW.iter_unpack(taken(room.rows, room.table.row_count * _row_size))
-        table = Table(message, list(rows), taken(room.octets, room.table.names_len))
-        give_back(room)
-        return 0, table
-    give_back(room)
-    return (number, Table(message, [], b"")) if number != NO_ROOM else _read_long(message, max_pointers)
-
-
-def _read_long(message: bytes, max_pointers: int) -> "Tuple[int, Table]":
-    """Returns the same with more room."""
-    row_count, names_size = 8 * _USUAL_ROWS, 8 * ROOM_SIZE
-    while True:
-        rows, names, counts = room_of(row_count * _row_size), room_of(names_size), Counts()
-        number = _message_table(
-            message, len(message), max_pointers, addressof(rows), row_count, addressof(names), names_size, addressof(counts)
-        )  # fmt: skip
-        if number != NO_ROOM:
-            break
+    rows, names, counts, row_count, names_size = room.rows, room.octets, room.table, _USUAL_ROWS, ROOM_SIZE
+    number = _message_table(message, size, max_pointers, room.rows_at, row_count, room.octets_at, names_size, room.table_at)
+    while number == dnw.NO_ROOM:
         row_count, names_size = 8 * row_count, 8 * names_size
-    if number:
-        return number, Table(message, [], b"")
-    listed: Any = _ROW.iter_unpack(taken(rows, counts.row_count * _row_size))
-    return 0, Table(message, list(listed), taken(names, counts.names_len))
+        rows, names, counts = room_of(row_count * _row_size), room_of(names_size), dnw.Table()
+        places = addressof(rows), row_count, addressof(names), names_size, addressof(counts)
+        number = _message_table(message, size, max_pointers, *places)
+    listed: Any = () if number else _ROW.iter_unpack(taken(rows, counts.row_count * _row_size))
+    table = Table(message, list(listed), b"" if number else taken(names, counts.names_len))
+    give_back(room)
+    return number, table
 
 
 # A header that counts one answer, which a record follows whose names are not compressed.
@@ -165,9 +134,9 @@ _ALONE = bytes(7) + b"\1" + bytes(4)
 ALONE_SIZE = len(_ALONE)
 
 
-def table_of(record: bytes, max_pointers: int = 65536) -> Table:
+def table_of(record: bytes) -> Table:
     """Returns the table of a message that has a record alone. Raises `BadData` if a name in its data is compressed."""
-    number, table = read_table(_ALONE + record, max_pointers)
+    number, table = read_table(_ALONE + record, dnw.MAX_POINTERS)
     check(number)
     table.check_whole(0)
     return table

@@ -1,15 +1,14 @@
 """Sets of record types, and serial numbers."""
 
 from array import array
-from ctypes import addressof, byref, c_int32, c_size_t
+from ctypes import byref, c_int32, c_size_t
 from typing import AbstractSet, FrozenSet, Iterable, Iterator, NoReturn, Union, final
 
 from . import _checks
 from ._checks import Bytes
 from ._codes import RecordType, code_of
-from ._errors import check
+from ._errors import check, stored
 from ._library import library, room_of, taken
-
 
 _CODE_SIZE = 2
 # The octets of the longest bitmap, which are the most that data have.
@@ -51,18 +50,14 @@ class TypeSet(AbstractSet[int]):
         # A longer bitmap is refused before its room is used.
         size = 8 * min(len(octets), _MOST_SIZE)
         room, count = room_of(_CODE_SIZE * size), c_size_t()
-        check(library.dnw_types_read(octets, len(octets), addressof(room), size, byref(count)))
+        check(library.dnw_types_read(octets, len(octets), room, size, byref(count)))
         made = cls.__new__(cls)
         made._codes = frozenset(array("H", taken(room, _CODE_SIZE * count.value)))
         return made
 
     def to_bitmap(self) -> bytes:
         """Returns the bitmap: windows in ascending order, none longer than needed."""
-        codes, count = array("H", self._codes), len(self._codes)
-        # A window has at most 34 octets.
-        room, length = room_of(34 * len({code >> 8 for code in self._codes})), c_size_t()
-        check(library.dnw_types_write(codes.buffer_info()[0], count, room, len(room), byref(length)))
-        return taken(room, length.value)
+        return stored(library.dnw_types_write, array("H", self._codes).tobytes(), len(self._codes))
 
     def __contains__(self, code: object) -> bool:
         return code in self._codes

@@ -2,24 +2,21 @@
 
 from contextlib import suppress
 from ctypes import byref, c_char, c_size_t
-from typing import Iterable, Iterator, NoReturn, Optional, Tuple
+from typing import Any, Callable, Iterable, Iterator, NoReturn, Optional, Tuple, final
 
 from . import _checks
-from ._data import put_pairs
-from ._errors import BadItem, DuplicateEdns, check
-from ._library import Writer, library
-from ._library import Edns as ReadEdns
-from ._messages import ANSWER_ITEM, OF_REPLY, Edns, Header, Message, Question, own_message
-from ._names import wire_of
+from . import _header as dnw
+from ._errors import check
+from ._failures import BadItem, DuplicateEdns
+from ._library import library, taken
+from ._messages import ANSWER_ITEM, OF_REPLY, Edns, Header, Message, Question, flags_of, own_message, question_parts, said_by
 from ._records import Record, own_record
 from ._sets import RRset
-
-# The sections, by their numbers in dns_names_wire.h.
-ANSWER, AUTHORITY, ADDITIONAL = 2, 3, 4
 
 _MOST = 65535
 
 
+@final
 class MessageWriter:
     """Writes a message into a bytearray, item by item, with names compressed (RFC 1035, section 4.1.4).
 
@@ -49,17 +46,23 @@ class MessageWriter:
         """Begins a message of at most `max_size` octets with this header. A `buffer` is written from its first octet on; its
         size is a maximum too, and it cannot be resized as long as the writer is used."""
         self._set(max_size, buffer)
-        code = _checks.number("response_code", header.response_code, 15)
-        id, flags = _checks.number("id", header.id, _MOST), header._flags() | code
-        check(library.dnw_writer_begin(self._room, len(self._room), self._max_size, id, flags, byref(self._state)))
+        _checks.number("response_code", header.response_code, 15)
+        self._call(library.dnw_writer_begin, self._max_size, _checks.number("id", header.id, _MOST), flags_of(header))
+
+    def __init_subclass__(cls) -> NoReturn:
+        raise TypeError("MessageWriter has no subclasses")
 
     def _set(self, max_size: int, buffer: Optional[bytearray]) -> None:
         self._max_size = _checks.number("max_size", max_size, _MOST)
         self._buffer = bytearray(max(self._max_size, 12)) if buffer is None else buffer
         if not isinstance(self._buffer, bytearray):
             raise _checks.wrong_type("buffer", "a bytearray is", buffer)
-        self._room = (c_char * len(self._buffer)).from_buffer(self._buffer)
-        self._state, self._asked = Writer(), None  # type: Writer, Optional[ReadEdns]
+        self._room = (c_char * bytearray.__len__(self._buffer)).from_buffer(self._buffer)
+        self._state, self._asked = dnw.Writer(), None  # type: dnw.Writer, Optional[dnw.Edns]
+
+    def _call(self, call: Callable[..., int], *given: object, last: Tuple[Any, ...] = ()) -> None:
+        """Calls a function of the library with the buffer, other arguments, the state, and what comes after it."""
+        check(call(self._room, len(self._room), *given, byref(self._state), *last))
 
     @classmethod
     def query(
@@ -70,9 +73,9 @@ class MessageWriter:
         *,
         id: int,
         recursion_desired: bool = True,
-        payload: Optional[int] = None,
+        max_payload: Optional[int] = None,
     ) -> "MessageWriter":
-        """Begins a query with this question. A `payload` adds an OPT record, which says that the sender accepts messages of so
+        """Begins a query with this question. A `max_payload` adds an OPT record, which says that the sender accepts messages of so
         many octets, or of 512 if it is less; without it `edns` may say more. The `id` should be random (RFC 5452, section
         9.2).
 
@@ -80,16 +83,12 @@ class MessageWriter:
         >>> MessageWriter.query(Question("a.", "NS"), id=7).finish().hex()
         '00070100000100000000000001610000020001'
         """
-        if not isinstance(question, Question):
-            raise _checks.wrong_type("question", "a Question is", question)
         writer = cls.__new__(cls)
         writer._set(max_size, buffer)
-        (wire, _), codes = wire_of("question", question.name), (question.question_type, question.question_class)
-        size = 0 if payload is None else max(1, _checks.number("payload", payload, _MOST))
-        number, room, most = _checks.number("id", id, _MOST), writer._room, writer._max_size
-        check(library.dnw_writer_query(
-            room, len(room), most, number, bool(recursion_desired), wire, len(wire), *codes, size, byref(writer._state)
-        ))  # fmt: skip
+        wire, *codes = question_parts("question", question)
+        size = 0 if max_payload is None else max(1, _checks.number("max_payload", max_payload, _MOST))
+        head = writer._max_size, _checks.number("id", id, _MOST), bool(recursion_desired)
+        writer._call(library.dnw_writer_query, *head, wire, len(wire), *codes, size)
         return writer
 
     @classmethod
@@ -115,12 +114,9 @@ class MessageWriter:
         writer._set(max_size, buffer)
         code = _checks.number("response_code", response_code, 4095)
         flags = bool(authoritative) << 10 | bool(recursion_available) << 7 | bool(authentic_data) << 5
-        wire, asked = own_message("request", request).wire, ReadEdns()
-        room, most = writer._room, writer._max_size
-        check(library.dnw_writer_reply(
-            room, len(room), most, wire, len(wire), flags, code, byref(writer._state), byref(asked)
-        ))  # fmt: skip
-        writer._asked = asked
+        wire, writer._asked = own_message("request", request).wire, dnw.Edns()
+        given = writer._max_size, wire, len(wire), flags, code
+        writer._call(library.dnw_writer_reply, *given, last=(byref(writer._asked),))
         return writer
 
     def __reduce__(self) -> NoReturn:
@@ -146,64 +142,51 @@ class MessageWriter:
 
     def question(self, question: Question) -> None:
         """Writes a question."""
-        if not isinstance(question, Question):
-            raise _checks.wrong_type("question", "a Question is", question)
-        (wire, _), codes = wire_of("question", question.name), (question.question_type, question.question_class)
-        check(library.dnw_writer_question(self._room, len(self._room), wire, len(wire), *codes, byref(self._state)))
+        wire, *codes = question_parts("question", question)
+        self._call(library.dnw_writer_question, wire, len(wire), *codes)
 
     def answer(self, record: Record) -> None:
         """Writes a record of the Answer section. Raises `BadData`, or as `Record.fields`, if its data are not valid."""
-        self._record(ANSWER, record)
+        self._call(library.dnw_writer_record, dnw.SECTION_ANSWERS, *_parts_of(record))
 
     def authority(self, record: Record) -> None:
         """Writes a record of the Authority section, as `answer`."""
-        self._record(AUTHORITY, record)
+        self._call(library.dnw_writer_record, dnw.SECTION_AUTHORITIES, *_parts_of(record))
 
     def additional(self, record: Record) -> None:
         """Writes a record of the Additional section, as `answer`."""
-        self._record(ADDITIONAL, record)
+        self._call(library.dnw_writer_record, dnw.SECTION_ADDITIONALS, *_parts_of(record))
 
     def answer_set(self, records: Iterable[Record], *, required: bool = True) -> None:
         """Writes the records of a set to the Answer section, or none of them (RFC 2181, section 5). If there is no room and
         the receiver needs the set, TC is set (section 9). Raises `ValueError` as `RRset`, and otherwise as `answer`."""
-        self._set_of(ANSWER, records, required)
+        self._set_of(dnw.SECTION_ANSWERS, records, required)
 
     def authority_set(self, records: Iterable[Record], *, required: bool = True) -> None:
         """Writes a set to the Authority section, as `answer_set`."""
-        self._set_of(AUTHORITY, records, required)
+        self._set_of(dnw.SECTION_AUTHORITIES, records, required)
 
     def additional_set(self, records: Iterable[Record], *, required: bool = False) -> None:
         """Writes a set to the Additional section, as `answer_set`. Glue is required (RFC 9471)."""
-        self._set_of(ADDITIONAL, records, required)
-
-    def _record(self, section: int, record: Record) -> None:
-        owner, data = own_record("record", record).owner.wire, record._whole_data()
-        codes = record.record_type, record.record_class, record.ttl
-        check(library.dnw_writer_record(
-            self._room, len(self._room), section, owner, len(owner), *codes, data, len(data), byref(self._state)
-        ))  # fmt: skip
+        self._set_of(dnw.SECTION_ADDITIONALS, records, required)
 
     def _set_of(self, section: int, records: Iterable[Record], required: bool) -> None:
         found = records if type(records) is RRset else RRset(records)
-        owner, ttl = found.owner.wire, found.ttl
+        owner, codes = found.owner.wire, (found.record_type, found.record_class, found.ttl)
         octets = b"".join([part for record in found for part in _counted(record._whole_data())])
-        check(library.dnw_writer_set(
-            self._room, len(self._room), section, bool(required), owner, len(owner), found.record_type,
-            found.record_class, ttl, octets, len(octets), byref(self._state),
-        ))  # fmt: skip
+        self._call(library.dnw_writer_set, section, bool(required), owner, len(owner), *codes, octets, len(octets))
 
     def edns(self, edns: Optional[Edns] = None, *, block: int = 0) -> None:
         """Writes the OPT record: of a reply as `Message.reply` has it, if its request has EDNS. If `block` is not 0, the message
         is padded to a multiple of so many octets (RFC 7830; RFC 8467). Raises `DuplicateEdns` if there is one already."""
-        own = edns or OF_REPLY
-        options, payload = put_pairs(own.options), _checks.number("max_payload", own.max_payload, _MOST)
-        last = options, len(options), _checks.number("block", block, _MOST), byref(self._state)
-        room, size = self._room, len(self._room)
+        own = OF_REPLY if edns is None else edns
+        (payload, options), padded = said_by(own), _checks.number("block", block, _MOST)
+        last = payload, options, len(options), padded
         if self._asked is not None:
-            check(library.dnw_writer_reply_edns(room, size, byref(self._asked), payload, *last))
+            self._call(library.dnw_writer_reply_edns, byref(self._asked), *last)
         else:
-            version, dnssec_ok = _checks.number("version", own.version, 255), bool(own.dnssec_ok)
-            check(library.dnw_writer_edns(room, size, 0, payload, 0, version, dnssec_ok, *last))
+            version = _checks.number("version", own.version, 255)
+            self._call(library.dnw_writer_edns, 0, payload, 0, version, bool(own.dnssec_ok), *last[1:])
 
     def _add_owed_edns(self) -> None:
         """Writes the OPT record of a reply, unless it is there."""
@@ -214,18 +197,14 @@ class MessageWriter:
     def last(self, record: Record, *, held: int = 0) -> None:
         """Writes a record after which no item may follow, as TSIG (RFC 8945, section 5.1), and gives back octets that are
         held back for it."""
-        owner, data = own_record("record", record).owner.wire, record._whole_data()
+        parts = _parts_of(record)
         self._add_owed_edns()
-        codes = record.record_type, record.record_class, record.ttl
-        check(library.dnw_writer_last(
-            self._room, len(self._room), _checks.number("held", held, _MOST), owner, len(owner), *codes, data, len(data),
-            byref(self._state),
-        ))  # fmt: skip
+        self._call(library.dnw_writer_last, _checks.number("held", held, _MOST), *parts)
 
     def finish(self) -> bytes:
         """Returns the message. A reply gets its OPT record first, if it has none and the request has EDNS."""
         self._add_owed_edns()
-        return bytes(self._buffer[: self._state.len])
+        return taken(self._room, self._state.len)
 
 
 def transfer(request: Message, records: Iterable[Record], max_size: int = _MOST) -> Iterator[bytes]:
@@ -240,17 +219,22 @@ def transfer(request: Message, records: Iterable[Record], max_size: int = _MOST)
     >>> [len(Message.from_wire(octets).answers) for octets in messages]
     [3, 1]
     """
-    items, at = b"".join([part for record in records for part in (ANSWER_ITEM, record.to_wire())]), c_size_t()
+    items, at = b"".join([part for record in records for part in (ANSWER_ITEM, own_record("records", record).to_wire())]), c_size_t()
     while True:
         writer = MessageWriter.reply(request, max_size, authoritative=True)
         if writer._asked is not None and not writer._asked.takes_records:
             at.value = len(items)
         else:
-            room, state = writer._room, byref(writer._state)
-            check(library.dnw_writer_fill(room, len(room), items, len(items), at.value, state, byref(at)))
+            writer._call(library.dnw_writer_fill, items, len(items), at.value, last=(byref(at),))
         yield writer.finish()
         if at.value == len(items):
             return
+
+
+def _parts_of(record: Record) -> Tuple[object, ...]:
+    """Returns the owner, the type, the class, the TTL and the data of a record, as calls take them."""
+    owner, data = own_record("record", record).owner.wire, record._whole_data()
+    return owner, len(owner), record.record_type, record.record_class, record.ttl, data, len(data)
 
 
 def _counted(octets: bytes) -> Tuple[bytes, bytes]:

@@ -5,37 +5,31 @@ import io
 import os
 import stat
 import struct
-from ctypes import byref, c_char, c_size_t
-from typing import Any, BinaryIO, Callable, Iterable, Iterator, List, NamedTuple, Optional, Tuple, Union
+from ctypes import addressof, byref, c_char, c_size_t
+from functools import partial
+from typing import BinaryIO, Callable, Iterable, Iterator, List, NamedTuple, Optional, Tuple, Union
 
 from . import _checks
+from . import _header as dnw
 from ._checks import Bytes
 from ._data import NameLike
-from ._errors import DnsError, check
-from ._library import (
-    NO_ROOM, PrintedRecord, SentenceText, Zone, ZoneEntry, ZoneFinding as Finding, ZoneRead, by_address, library, taken,
-)
+from ._errors import DnsError, check, sentence, stored
+from ._library import by_address, library, taken
 from ._names import Name, whole_name
-from ._records import Record, own_record, record_of
+from ._records import MOST_TTL, Record, own_record, record_of
 
-# The kinds of entries, by their numbers in `dns_names_wire.h`.
-_END, _MORE, _NOTHING, _RECORD, _INCLUDE, _ERROR = range(6)
-
-# The octets that are read at once, and the most that a record, or an entry of a file, may have.
+# The octets that are read at once, and the most that an entry of a file may have.
 _WINDOW = 1 << 16
-_RECORD_SIZE = 65800
 _MOST = 1 << 24
 # The records that are read in one call, at most, the octets for them, and the members of the row of each.
 _ROWS = 256
-_ROWS_SIZE = _RECORD_SIZE + (1 << 15)
+_ROWS_SIZE = dnw.ZONE_OCTETS_SIZE + (1 << 15)
 _ROW = struct.Struct("NNNNNIHH")
-# The octets of a line that is written, at first: more than `$ORIGIN` and a name have.
-_LINE_SIZE = 2048
 # How deep files include others, and how many octets of a line are shown before and after what is wrong.
 _DEPTH = 10
 _SHOWN = 500
 
-_next, _read = by_address("dnw_zone_next", 7), by_address("dnw_zone_read", 9)
+_next, _read = by_address("dnw_zone_next"), by_address("dnw_zone_read")
 
 Path = Union[str, "os.PathLike[str]"]
 
@@ -70,8 +64,8 @@ def _shown(octets: bytes) -> str:
 class _File:
     """A file that is read, in parts that end where it is read up to: the next entry begins at `at`."""
 
-    def __init__(self, stream: BinaryIO, name: str, folder: Optional[str], zone: Zone) -> None:
-        self.stream, self.name, self.folder, self.zone = stream, name, folder, zone
+    def __init__(self, stream: BinaryIO, name: str, folder: Optional[str], zone: dnw.Zone, is_own: bool = True) -> None:
+        self.stream, self.name, self.folder, self.zone, self.is_own = stream, name, folder, zone, is_own
         self.window = (c_char * _WINDOW)()
         self.at = self.there = 0
         self.more = True
@@ -87,10 +81,16 @@ class _File:
         self.window, self.at, self.there = window, 0, left
         while self.there < len(octets) and self.more:
             read = self.stream.readinto(octets[self.there :])  # type: ignore[attr-defined]
+            read = _checks.number("readinto", read, len(octets) - self.there)
             self.there += read
             self.more = read > 0
 
-    def error(self, reason: str, entry: ZoneEntry, place: int) -> ZoneError:
+    def close(self) -> None:
+        """Closes the file, unless the caller opened it."""
+        if self.is_own:
+            self.stream.close()
+
+    def error(self, reason: str, entry: dnw.ZoneEntry, place: int) -> ZoneError:
         """Returns the error at an offset of the part that is there."""
         place += self.at
         octets = memoryview(self.window).cast("B")
@@ -103,27 +103,9 @@ class _File:
         """Returns what identifies the file, if it is one of the system's."""
         try:
             status = os.fstat(self.stream.fileno())
-        except (OSError, io.UnsupportedOperation):
+        except (AttributeError, OSError):
             return None
         return status.st_dev, status.st_ino
-
-
-class _Kept:
-    """A stream of the caller's, which stays open."""
-
-    def __init__(self, stream: BinaryIO) -> None:
-        self.readinto = stream.readinto  # type: ignore[attr-defined]
-        self.fileno = stream.fileno
-
-    def close(self) -> None:
-        pass
-
-
-def _sentence(entry: ZoneEntry) -> str:
-    """Returns what is wrong by an entry, without its offset."""
-    room, length = SentenceText(), c_size_t()
-    check(library.dnw_text_fault_print(byref(entry.fault), room, len(room), byref(length)))
-    return taken(room, length.value).decode("ascii").partition(": ")[2]
 
 
 class _Reader:
@@ -132,37 +114,31 @@ class _Reader:
     def __init__(self, errors: Optional[Callable[[ZoneError], object]]) -> None:
         self.errors = errors
         self.files: List[_File] = []
-        self.entry, self.octets = ZoneEntry(), (c_char * _ROWS_SIZE)()
-        self.entry_at, self.octets_at = ctypes.addressof(self.entry), ctypes.addressof(self.octets)
-        self.rows, self.read = (c_char * (_ROWS * _ROW.size))(), ZoneRead()
-        self.rows_at, self.read_at = ctypes.addressof(self.rows), ctypes.addressof(self.read)
+        self.entry, self.octets = dnw.ZoneEntry(), (c_char * _ROWS_SIZE)()
+        self.entry_at, self.octets_at = addressof(self.entry), addressof(self.octets)
+        self.rows, self.read = (c_char * (_ROWS * _ROW.size))(), dnw.RowsRead()
+        self.rows_at, self.read_at = addressof(self.rows), addressof(self.read)
         self.owner: Optional[Name] = None
-
-    def close(self) -> None:
-        for file in self.files:
-            file.stream.close()
 
     def take(self, file: _File) -> int:
         """Takes the next entry of a file, and returns its kind. Its octets are not passed yet."""
         entry = self.entry
         while True:
-            start = ctypes.addressof(file.window) + file.at
-            arguments = start, file.there - file.at, file.more, ctypes.addressof(file.zone), self.octets_at, _RECORD_SIZE
-            check(_next(*arguments, self.entry_at))
-            if entry.kind != _MORE and (entry.kind != _END or not file.more):
+            part = addressof(file.window) + file.at, file.there - file.at, file.more, addressof(file.zone)
+            check(_next(*part, self.octets_at, dnw.ZONE_OCTETS_SIZE, self.entry_at))
+            if entry.kind != dnw.ZONE_MORE and (entry.kind != dnw.ZONE_END or not file.more):
                 return int(entry.kind)
             if file.there - file.at >= _MOST:
                 self.report(file.error(f"an entry has more than {_MOST} octets", entry, 0))
-                return _END
+                return dnw.ZONE_END
             file.read_on()
 
     def take_rows(self, file: _File) -> Iterator[Record]:
         """Yields the records that are next in the part of a file that is there, up to what is none, and passes them."""
-        read, kind = self.read, _RECORD
-        while kind == _RECORD:
-            start = ctypes.addressof(file.window) + file.at
-            arguments = start, file.there - file.at, file.more, ctypes.addressof(file.zone), self.rows_at, _ROWS
-            check(_read(*arguments, self.octets_at, _ROWS_SIZE, self.read_at))
+        read, kind = self.read, dnw.ZONE_RECORD
+        while kind == dnw.ZONE_RECORD:
+            part = addressof(file.window) + file.at, file.there - file.at, file.more, addressof(file.zone)
+            check(_read(*part, self.rows_at, _ROWS, self.octets_at, _ROWS_SIZE, self.read_at))
             octets = taken(self.octets, read.octets_len)
             found = _ROW.iter_unpack(taken(self.rows, read.row_count * _ROW.size))
             file.at, kind = file.at + read.used, read.next
@@ -175,20 +151,18 @@ class _Reader:
             file, entry = self.files[-1], self.entry
             yield from self.take_rows(file)
             kind = self.take(file)
-            if kind == _RECORD:
+            if kind == dnw.ZONE_END:
+                self.files.pop().close()
+                continue
+            used = entry.used
+            if kind == dnw.ZONE_RECORD:
                 wire = taken(self.octets, entry.len)
-                record = self.made(wire, entry.name_len, entry.data_len, entry.ttl, entry.record_type, entry.record_class)
-                file.at += entry.used
-                yield record
-            elif kind == _ERROR:
-                self.report(file.error(_sentence(entry), entry, entry.fault.offset))
-                file.at += entry.used
-            elif kind == _INCLUDE:
+                yield self.made(wire, entry.name_len, entry.data_len, entry.ttl, entry.record_type, entry.record_class)
+            elif kind == dnw.ZONE_ERROR:
+                self.report(file.error(sentence(entry.fault), entry, entry.fault.offset))
+            elif kind == dnw.ZONE_INCLUDE:
                 self.include(file)
-            elif kind == _END:
-                self.files.pop().stream.close()
-            else:
-                file.at += entry.used
+            file.at += used
 
     def report(self, error: ZoneError) -> None:
         """Raises an error, or shows it to who reads on."""
@@ -207,7 +181,7 @@ class _Reader:
         """Opens the file of the `$INCLUDE` that was taken, whose entries come next."""
         entry, octets = self.entry, taken(self.octets, self.entry.len)
         wire, name = octets[: entry.name_len], os.fsdecode(octets[entry.name_len :])
-        used, fault = entry.used, file.error("", entry, 0)
+        fault = file.error("", entry, 0)
         try:
             included = self.opened(file, name)
         except (OSError, ValueError) as error:
@@ -216,7 +190,6 @@ class _Reader:
         else:
             check(library.dnw_zone_include(wire, len(wire), byref(included.zone)))
             self.files.append(included)
-        file.at += used
 
     def opened(self, file: _File, name: str) -> _File:
         """Opens a file that another one includes. It has a copy of its state."""
@@ -227,9 +200,9 @@ class _Reader:
         path = os.path.join(file.folder, name)
         if not stat.S_ISREG(os.stat(path).st_mode):
             raise ValueError(f"{name!r} is not a file")
-        included = _File(open(path, "rb", buffering=0), path, os.path.dirname(path), Zone.from_buffer_copy(file.zone))
+        included = _File(open(path, "rb", buffering=0), path, os.path.dirname(path), dnw.Zone.from_buffer_copy(file.zone))
         if included.identity() in [it.identity() for it in self.files]:
-            included.stream.close()
+            included.close()
             raise ValueError(f"{name!r} includes itself")
         return included
 
@@ -266,19 +239,27 @@ def read_zone(
     ns.example. 3600 IN A 192.0.2.1
     ns.example. 3600 IN TXT "hello" "world"
     """
-    zone, wire = Zone(), whole_name("origin", origin).wire
-    check(library.dnw_zone_begin(wire, len(wire), byref(zone)))
+    zone = _begun(origin)
     if default_ttl is not None:
-        zone.fallback_ttl, zone.has_fallback_ttl = _checks.number("default_ttl", default_ttl, 2**31 - 1), 1
+        zone.fallback_ttl, zone.has_fallback_ttl = _checks.number("default_ttl", default_ttl, MOST_TTL), 1
     zone.generate_limit = _checks.number("generate_limit", generate_limit, 2**32 - 1)
+    stream: BinaryIO
+    within, is_own = folder, True
     if isinstance(source, (str, os.PathLike)):
         path = os.fspath(source)
-        name, within, stream = path, os.path.dirname(path), open(path, "rb", buffering=0)  # type: Tuple[str, Optional[str], BinaryIO]
+        name, stream, within = path, open(path, "rb", buffering=0), os.path.dirname(path) if folder is None else folder
     elif hasattr(source, "readinto"):
-        name, within, stream = str(getattr(source, "name", "<stream>")), None, _Kept(source)  # type: ignore[arg-type, assignment]
+        name, stream, is_own = str(getattr(source, "name", "<stream>")), source, False  # type: ignore[assignment]
     else:
-        name, within, stream = "<bytes>", None, io.BytesIO(_checks.octets("source", source))
-    return _records(_File(stream, name, within if folder is None else os.fspath(folder), zone), _Reader(errors))
+        name, stream = "<bytes>", io.BytesIO(_checks.octets("source", source))
+    return _records(_File(stream, name, None if within is None else os.fspath(within), zone, is_own), _Reader(errors))
+
+
+def _begun(origin: NameLike) -> dnw.Zone:
+    """Returns the state before the first entry of a zone file."""
+    zone, wire = dnw.Zone(), whole_name("origin", origin).wire
+    check(library.dnw_zone_begin(wire, len(wire), byref(zone)))
+    return zone
 
 
 def _records(file: _File, reader: _Reader) -> Iterator[Record]:
@@ -287,7 +268,8 @@ def _records(file: _File, reader: _Reader) -> Iterator[Record]:
     try:
         yield from reader.records()
     finally:
-        reader.close()
+        for it in reader.files:
+            it.close()
 
 
 def zone_lines(records: Iterable[Record], origin: NameLike, ttl: Optional[int] = None) -> Iterator[str]:
@@ -308,29 +290,19 @@ def zone_lines(records: Iterable[Record], origin: NameLike, ttl: Optional[int] =
     ns IN A 192.0.2.1
      5 IN A 192.0.2.2
     """
-    zone, wire = Zone(), whole_name("origin", origin).wire
-    seconds = None if ttl is None else _checks.number("ttl", ttl, 2**32 - 1)
-    check(library.dnw_zone_begin(wire, len(wire), byref(zone)))
-    return _lines(records, wire, seconds, zone)
+    seconds = None if ttl is None else _checks.number("ttl", ttl, MOST_TTL)
+    return _lines(records, whole_name("origin", origin).wire, seconds, _begun(origin))
 
 
-def _lines(records: Iterable[Record], origin: bytes, ttl: Optional[int], zone: Zone) -> Iterator[str]:
+def _lines(records: Iterable[Record], origin: bytes, ttl: Optional[int], zone: dnw.Zone) -> Iterator[str]:
     """Yields the lines of a zone file whose state this is."""
-    room, length, printed = (c_char * _LINE_SIZE)(), c_size_t(), PrintedRecord()
-    check(library.dnw_zone_put_origin(origin, len(origin), byref(zone), room, len(room), byref(length)))
-    yield taken(room, length.value).decode("ascii")
+    yield stored(library.dnw_zone_put_origin, origin, len(origin), byref(zone)).decode("ascii")
     if ttl is not None:
-        check(library.dnw_zone_put_ttl(ttl, byref(zone), room, len(room), byref(length)))
-        yield taken(room, length.value).decode("ascii")
+        yield stored(library.dnw_zone_put_ttl, ttl, byref(zone)).decode("ascii")
     for record in records:
         message, start = own_record("records", record)._message, record._start
-        arguments: Tuple[Any, ...] = message, len(message), start, byref(zone)
-        number = library.dnw_zone_put_record(*arguments, room, len(room), byref(printed))
-        while number == NO_ROOM:
-            room = (c_char * (4 * len(room)))()
-            number = library.dnw_zone_put_record(*arguments, room, len(room), byref(printed))
-        check(number, start)
-        yield taken(room, printed.len).decode("ascii")
+        given, failed = (message, len(message), start, byref(zone)), partial(check, offset=start)
+        yield stored(library.dnw_zone_put_record, *given, result=dnw.PrintedRecord(), failed=failed).decode("ascii")
 
 
 # What a zone is found to have, by the numbers of the checks in `dns_names_wire.h`.
@@ -386,12 +358,12 @@ def check_zone(records: Iterable[Record], zone: NameLike) -> List[ZoneFinding]:
     given.sort(key=lambda record: record.owner.sort_key())
     whole = b"".join(record.to_wire() for record in given)
     most, count = 2 + 10 * len(given), c_size_t()
-    found = (Finding * most)()
+    found = (dnw.ZoneFinding * most)()
     check(library.dnw_zone_check(wire, len(wire), whole, len(whole), found, most, byref(count)))
     return [_finding(it, given) for it in found[: count.value]]
 
 
-def _finding(it: Finding, records: List[Record]) -> ZoneFinding:
+def _finding(it: dnw.ZoneFinding, records: List[Record]) -> ZoneFinding:
     """Returns a finding of these records."""
     record, other = (records[number] if number < len(records) else None for number in (it.number, it.other))
     return ZoneFinding(it.check, _REASONS[it.check], it.is_error, record, other)

@@ -67,15 +67,15 @@ def query():
 class Messages(unittest.TestCase):
     def test_a_query_is_written_item_by_item(self):
         question = Question("www.example.com.", "A")
-        self.assertEqual(dnw.MessageWriter.query(question, id=0x1234, payload=1232).finish(), QUERY)
+        self.assertEqual(dnw.MessageWriter.query(question, id=0x1234, max_payload=1232).finish(), QUERY)
         plain = dnw.MessageWriter.query(question, id=1, recursion_desired=False)
         self.assertEqual(plain.finish(), Message.query("www.example.com.", "A", id=1, recursion_desired=False).to_wire())
-        small = dnw.MessageWriter.query(question, id=1, payload=0)
+        small = dnw.MessageWriter.query(question, id=1, max_payload=0)
         self.assertEqual(Message.from_wire(small.finish()).edns.max_payload, 512)
         with self.assertRaises(dnw.DuplicateEdns):
             small.edns()
         with self.assertRaises(dnw.MessageTooLong):
-            dnw.MessageWriter.query(question, 43, id=1, payload=1232)
+            dnw.MessageWriter.query(question, 43, id=1, max_payload=1232)
         with self.assertRaises(TypeError):
             dnw.MessageWriter.query("a. A", id=1)
         with self.assertRaises(ValueError):
@@ -85,7 +85,7 @@ class Messages(unittest.TestCase):
         request = query()
         self.assertEqual(request.to_wire(), QUERY)
         self.assertEqual(Message.from_wire(QUERY), request)
-        self.assertEqual(make_query("www.example.com.", "a", payload=1232, id=0x1234), request)
+        self.assertEqual(make_query("www.example.com.", "a", max_payload=1232, id=0x1234), request)
         reply = request.reply(ANSWERS, AUTHORITIES, ADDITIONALS, authoritative=True)
         self.assertEqual(reply.to_wire(), REPLY)
         read = Message.from_wire(REPLY)
@@ -190,7 +190,7 @@ class Messages(unittest.TestCase):
         self.assertEqual((len(whole.answers), whole.header.truncation), ((65535 - 12) // 11, False))
 
     def test_queries(self):
-        asked = make_query(Name("a."), RecordType.NS, "CH", want_dnssec=True)
+        asked = make_query(Name("a."), RecordType.NS, "CH", dnssec_ok=True)
         self.assertEqual((asked.edns, asked.questions[0].question_class), (Edns(1232, dnssec_ok=True), RecordClass.CH))
         self.assertFalse(Message.query(Name("a."), 2, recursion_desired=False).header.recursion_desired)
         self.assertGreater(len({make_query("a.", "A").id for _ in range(20)}), 1)

@@ -25,7 +25,7 @@ class Cuts(unittest.TestCase):
             others = [record for record in message.additionals if record.record_type != RecordType.OPT]
             built = Message.build(message.header, message.questions, *parts)
             asked, code = message.questions[0], message.response_code
-            query = make_query(asked.name, asked.question_type, want_dnssec=True, payload=65535, id=7)
+            query = make_query(asked.name, asked.question_type, dnssec_ok=True, max_payload=65535, id=7)
             aa = message.header.authoritative
             reply = query.reply(*parts[:2], others, authoritative=aa, response_code=code, edns=Edns(1232))
             # It may have fewer octets than the server's, with names compressed that the server wrote whole.

@@ -8,10 +8,13 @@ import unittest
 from ipaddress import IPv4Address, IPv6Address
 
 import dns_names_wire as dnw
-from dns_names_wire import Message, Name, OpCode, Record, ResponseCode
-from dns_names_wire._data import CLASSES
+from dns_names_wire import Message, Name, OpCode, Record, ResponseCode, _rdata
 
 from test_whole_messages import RESPONSE
+
+# The classes of types, by their codes.
+CLASSES = {code: getattr(_rdata, name) for code, name in _rdata.NAMES.items()}
+
 
 class DataByType(unittest.TestCase):
     def test_data_are_read_by_type(self):
@@ -145,8 +148,9 @@ class ByChance(unittest.TestCase):
 
 class Classes(unittest.TestCase):
     def test_each_class_has_its_type_and_its_fields(self):
-        kinds = {kind._code: kind for kind in vars(dnw).values() if isinstance(kind, type) and getattr(kind, "_code", None)}
+        kinds = CLASSES
         self.assertEqual(len(kinds), 79)
+        self.assertLess({kind.__name__ for kind in kinds.values()}, set(dnw.__all__))
         for code, kind in kinds.items():
             self.assertEqual(len(kind._kinds), len(dataclasses.fields(kind)))
             self.assertEqual(dnw.type_text(code).replace("-", "_"), kind.__name__)

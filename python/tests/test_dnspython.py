@@ -175,7 +175,7 @@ class BesideDnspython(unittest.TestCase):
             self.assertEqual(ours.option().octets, theirs.to_wire())
             theirs = dns.edns.EDEOption(chance.randrange(65536), chance.choice([None, "why", "\u00e9", "x" * 99]))
             ours = EdnsOption(15, theirs.to_wire()).data
-            self.assertEqual((ours.error_code, ours.text or None), (theirs.code, theirs.text))
+            self.assertEqual((ours.info_code, ours.text or None), (theirs.code, theirs.text))
             self.assertEqual(ours.option().octets, theirs.to_wire())
 
     def test_messages_are_read_as_they_were_written(self):

@@ -40,8 +40,8 @@ class LyingQuestion(Question):
 
 
 class LyingEdns(Edns):
-    def _record(self, code: int) -> bytes:
-        return LyingBytes(super()._record(code))
+    max_payload = property(lambda self: LyingInt(512))  # type: ignore[assignment]
+    options = property(lambda self: [(LyingInt(3), LyingBytes(b"ab"))])  # type: ignore[assignment]
 
 
 class LyingOption(dnw.Cookie):
@@ -51,8 +51,18 @@ class LyingOption(dnw.Cookie):
 
 
 class LyingHeader(Header):
-    def _flags(self) -> int:
-        return LyingInt(7)
+    op_code = property(lambda self: LyingInt(5))  # type: ignore[assignment]
+    response_code = property(lambda self: LyingInt(3))  # type: ignore[assignment]
+
+
+class LyingStream:
+    """A file that says that it has read other octets than it has."""
+
+    def __init__(self, says: Any) -> None:
+        self.says = says
+
+    def readinto(self, room: memoryview) -> Any:
+        return self.says
 
 
 class Impostor:
@@ -167,7 +177,7 @@ class Impostors(unittest.TestCase):
         self.assertRaises(ValueError, make_query, LyingName("a"), "A")
 
     def test_no_subclass_stands_for_a_value(self) -> None:
-        for kind in (Record, RRset, TypeSet, Message, type(Message.from_wire(REPLY))):
+        for kind in (Record, RRset, TypeSet, Message, MessageWriter):
             with self.assertRaisesRegex(TypeError, "has no subclasses$"):
                 type("Other", (kind,), {})
         for one in impostors(Record):
@@ -179,6 +189,25 @@ class Impostors(unittest.TestCase):
         for one in impostors(Message):
             self.assertRaises(TypeError, MessageWriter.reply, one)
             self.assertRaises(TypeError, Message.from_wire(REPLY).is_reply_to, one)
+
+    def test_a_file_has_not_more_than_there_is_room_for(self) -> None:
+        for says in (65537, 1 << 20, 1 << 62, -1, LyingInt(1 << 20), None, "1"):
+            with self.assertRaises((TypeError, ValueError)):
+                list(dnw.read_zone(LyingStream(says), "a."))  # type: ignore[arg-type]
+
+    def test_what_a_subclass_says_is_checked(self) -> None:
+        header, edns = LyingHeader(7, is_response=True), LyingEdns()
+        built = Message.from_wire(Message.build(header, [Question("a.", "A")], edns=edns).to_wire())
+        self.assertEqual((built.header.op_code, built.response_code, built.max_payload), (5, 3, 512))
+        self.assertEqual(built.edns, Edns(512, options=[(3, b"ab")]))
+        self.assertRaises(TypeError, Message.build, questions=[LyingQuestion("a.", "A")])
+        self.assertRaises(TypeError, MessageWriter().question, LyingQuestion("a.", "A"))
+        for section in ("answers", "authorities", "additionals", "required"):
+            for one in impostors(Record):
+                with self.assertRaisesRegex(TypeError, f"^{section}: a Record is wanted"):
+                    Message.build(**{section: [one]})
+                with self.assertRaisesRegex(TypeError, f"^{section}: a Record is wanted"):
+                    make_query("a.", "A").reply(**{section: [one]})
 
     def test_a_long_bitmap_takes_no_room(self) -> None:
         for bitmap in (bytes(65536), bytes(50_000_000), b"\xff" * 50_000_000):

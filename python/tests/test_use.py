@@ -2,7 +2,6 @@
 
 import doctest
 import importlib
-import inspect
 import os
 import pathlib
 import pickle
@@ -39,6 +38,7 @@ from dns_names_wire import (
     make_query,
     rrsets,
 )
+from dns_names_wire._failures import CLASSES
 
 PACKAGE = pathlib.Path(dnw.__file__).resolve().parent
 # A reply to www.example.com. A
@@ -258,7 +258,7 @@ class Replies(unittest.TestCase):
         self.assertEqual(query.reply().flags, ("QR", "RD"))
 
     def test_what_the_requester_accepts(self) -> None:
-        self.assertEqual([make_query("a.", "A", payload=size).max_payload for size in (None, 100, 512, 1232)], [512, 512, 512, 1232])
+        self.assertEqual([make_query("a.", "A", max_payload=size).max_payload for size in (None, 100, 512, 1232)], [512, 512, 512, 1232])
 
 
 class Texts(unittest.TestCase):
@@ -334,7 +334,7 @@ class Texts(unittest.TestCase):
 
     def test_the_page_of_the_package_fits_on_a_screen(self) -> None:
         self.assertLess(len(pydoc.getdoc(dnw).splitlines()), 60)
-        names = {name for name, value in vars(dnw).items() if name[0] != "_" and not inspect.ismodule(value)}
+        names = set(dnw.__all__)
         shown = set(re.findall(r"\w+", dnw.__doc__ or ""))
         hidden = {name for name in names - shown if not isinstance(getattr(dnw, name), type)}
         self.assertEqual(hidden, set())
@@ -354,7 +354,7 @@ class Texts(unittest.TestCase):
         # success, out of memory, no room, no error of its own, and an address that `ipaddress` does not make
         for number in (0, 1, 2, 13, 25):
             numbers.pop(number)
-        classes = {one.number: one.__name__ for one in dnw.DnsError.__subclasses__() if one.number != dnw.DnsError.number}
+        classes = {one.number: one.__name__ for one in CLASSES.values()}
         self.assertEqual({n: name.replace("_", "").lower() for n, name in numbers.items()}, {n: name.lower() for n, name in classes.items()})
 
     def test_the_lexer_is_not_shown(self) -> None:

@@ -9,7 +9,7 @@ import pickle
 import subprocess
 import sys
 import unittest
-from typing import Any, Callable, List, Tuple
+from typing import Any, Callable, List, Set, Tuple
 
 import dns_names_wire as dnw
 from dns_names_wire import CDS, DNSKEY, DS, MX, TXT, Data, Name, Record, RRset
@@ -24,7 +24,8 @@ SHA256 = "60485 5 2 D4B7D520E7BB5F0F67674A0CCEB1E3E0614B93C4F9E99B8383F6A1E4469D
 
 class Classes(unittest.TestCase):
     def test_no_class_of_a_type_is_one_of_another(self) -> None:
-        kinds = [kind for kind in vars(dnw).values() if isinstance(kind, type) and issubclass(kind, Data) and kind._code]
+        shown = [getattr(dnw, name) for name in dnw.__all__]
+        kinds = [kind for kind in shown if isinstance(kind, type) and issubclass(kind, Data) and kind._code]
         self.assertEqual(len(kinds), 79)
         for one, other in itertools.permutations(kinds, 2):
             self.assertFalse(issubclass(one, other), (one, other))
@@ -60,13 +61,21 @@ class Classes(unittest.TestCase):
         room: dict = {}
         exec("from dns_names_wire import *", room)
         self.assertEqual({name for name in vars(dnw) if name[0] != "_"}, {name for name in room if name != "__builtins__"})
+        self.assertEqual(sorted(dnw.__all__), sorted(name for name in dir(dnw) if name[0] != "_"))
+        self.assertRaises(AttributeError, getattr, dnw, "NOTHING")
 
-    def test_the_classes_are_made_fast(self) -> None:
-        ran = subprocess.run([sys.executable, "-X", "importtime", "-c", "import dns_names_wire"], capture_output=True, text=True)
-        self.assertEqual(ran.returncode, 0, ran.stderr)
-        rows = [line.removeprefix("import time:").split("|") for line in ran.stderr.splitlines() if "dns_names_wire" in line]
-        own = {name.strip(): int(microseconds) for microseconds, _, name in rows}
-        self.assertLess(own["dns_names_wire._rdata"], sum(own.values()) / 2)
+    def test_only_what_is_used_is_imported(self) -> None:
+        def imported(used: str) -> Set[str]:
+            shown = "print(*[it for it in sys.modules if it.startswith('dns_names_wire.')])"
+            words = [sys.executable, "-c", f"import sys, dns_names_wire as dnw; {used}; {shown}"]
+            ran = subprocess.run(words, capture_output=True, text=True)
+            self.assertEqual(ran.returncode, 0, ran.stderr)
+            return {it[len("dns_names_wire.") :] for it in ran.stdout.split()}
+
+        self.assertEqual(imported("dnw.__all__, dir(dnw)"), set())
+        self.assertEqual(imported("dnw.Message, dnw.Record") & {"_rdata", "_dnssec", "_failures", "_writer", "_zones"}, set())
+        made = "import dns_names_wire._rdata as made; dnw.MX; assert 'MX' in vars(made) and 'TXT' not in vars(made)"
+        self.assertEqual(imported(made) & {"_messages", "_dnssec"}, set())
 
 
 class Texts(unittest.TestCase):

@@ -143,7 +143,7 @@ class Stepwise(unittest.TestCase):
         self.assertEqual(writer.finish(), before)
 
     def test_replies(self) -> None:
-        query = make_query("www.example.com.", "A", id=0x1234, payload=1232)
+        query = make_query("www.example.com.", "A", id=0x1234, max_payload=1232)
         writer = MessageWriter.reply(query, authoritative=True, response_code=ResponseCode.BADCOOKIE)
         writer.answer(Record("www.example.com.", 60, A("192.0.2.1")))
         own = query.reply([Record("www.example.com.", 60, A("192.0.2.1"))], authoritative=True, response_code=23)
@@ -318,7 +318,7 @@ class Lists(unittest.TestCase):
             self.assertEqual((read.answers, read.header.truncation), ((), True))
 
     def test_the_question_is_never_left_out(self) -> None:
-        query = make_query("www.example.com.", "A", id=7, payload=1232)
+        query = make_query("www.example.com.", "A", id=7, max_payload=1232)
         reply = query.reply([Record("www.example.com.", 60, A("192.0.2.1"))])
         for size in range(12 + 21 + 11):
             with self.assertRaises(dnw.MessageTooLong):
@@ -353,7 +353,7 @@ class Lists(unittest.TestCase):
                     reply(response_code=code)
         self.assertEqual(plain.reply(response_code=15).header.response_code, 15)
         for code in [16, 23, 4095]:
-            self.assertEqual(make_query("a.", "A", payload=1232).reply(response_code=code).response_code, code)
+            self.assertEqual(make_query("a.", "A", max_payload=1232).reply(response_code=code).response_code, code)
 
     def test_a_reply_says_what_its_request_asks(self) -> None:
         # BADVERS for another version (RFC 6891, section 6.1.3), without records, and DO as the request (RFC 3225, section 3)
@@ -427,7 +427,7 @@ class Lists(unittest.TestCase):
 
     def test_made_messages_are_padded(self) -> None:
         key = Record(QUESTION.name, 0, KEY.data, RecordClass.ANY)
-        query = make_query(QUESTION.name, "A", id=7, payload=1232)
+        query = make_query(QUESTION.name, "A", id=7, max_payload=1232)
         for block in [1, 32, 128, 468, 512, 600]:
             for others in [[], [key]]:
                 reply = query.reply([Record(QUESTION.name, 60, A("192.0.2.1"))], [], others)
@@ -439,7 +439,7 @@ class Lists(unittest.TestCase):
 
     def test_messages_that_were_read_are_padded(self) -> None:
         key = Record(QUESTION.name, 0, KEY.data, RecordClass.ANY)
-        query = make_query(QUESTION.name, "A", id=7, payload=1232)
+        query = make_query(QUESTION.name, "A", id=7, max_payload=1232)
         for block in [1, 32, 128, 468, 512, 600]:
             for others in [[], [key]]:
                 reply = query.reply([Record(QUESTION.name, 60, A("192.0.2.1"))], [], others)
@@ -457,7 +457,7 @@ class Lists(unittest.TestCase):
         soa = Record.from_text("a. 60 SOA a. a. 1 2 3 4 5")
         records = [soa, *(Record(f"host-{i}.a.", 60, A("192.0.2.1")) for i in range(3000)), soa]
         for payload, max_size in [(None, 65535), (1232, 65535), (None, 512), (1232, 512), (None, 100)]:
-            request = make_query("a.", "AXFR", payload=payload)
+            request = make_query("a.", "AXFR", max_payload=payload)
             messages = [Message.from_wire(octets) for octets in dnw.transfer(request, records, max_size)]
             self.assertEqual([record for message in messages for record in message.answers], records)
             for message in messages:
@@ -491,7 +491,7 @@ class Rooms(unittest.TestCase):
 
     def exchange(self, number: int) -> None:
         owner = Name(f"host{number}.example.")
-        query = Message.from_wire(make_query(owner, "A", id=number, payload=1232).to_wire())
+        query = Message.from_wire(make_query(owner, "A", id=number, max_payload=1232).to_wire())
         record = Record(owner, number, A(f"192.0.2.{number % 256}"))
         reply = Message.from_wire(query.reply([record], authoritative=True).to_wire())
         self.assertEqual((reply.id, reply.questions[0].name, str(reply.answers[0])), (number, owner, str(record)))

@@ -65,7 +65,7 @@ class Zones(unittest.TestCase):
         large = Record("a.", 1, dnw.TXT([b"x"] * 30000))
         self.assertEqual(list(zone_lines([large], "a."))[1], "@ 1 IN TXT" + ' "x"' * 30000 + "\n")
         self.assertRaises(ValueError, zone_lines, [], "relative")
-        self.assertRaises(ValueError, zone_lines, [], "a.", 2**32)
+        self.assertRaises(ValueError, zone_lines, [], "a.", 2**31)
         self.assertRaises(TypeError, list, zone_lines(["a. 1 IN A 192.0.2.1"], "a."))
 
     @unittest.skipIf(dns is None, "dnspython is not there")

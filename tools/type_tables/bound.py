@@ -10,11 +10,12 @@ from .listed import TABLE, Type, fail
 
 @dataclass(frozen=True)
 class Bound:
-    """A kind of field in Rust, its type and the word by which it is read and written; and in Python, its annotation and, if that
-    is another one, what the constructor takes."""
+    """A kind of field in Rust, its type and the word by which it is read and written; and in Python, the letter by which _data.py
+    knows it, its annotation and, if that is another one, what the constructor takes."""
 
     rust: str
     word: str
+    letter: str
     python: str
     taken: str = ""
 
@@ -22,31 +23,31 @@ class Bound:
 OCTETS = "&'a [u8]"
 # By the words of the definitions; a kind with an argument may be there without it.
 KINDS: Dict[str, Bound] = {
-    "Name": Bound("NameRef<'a>", "name", "Name", "NameLike"),
-    "U8": Bound("u8", "u8", "U8"),
-    "U16": Bound("u16", "u16", "U16"),
-    "U32": Bound("u32", "u32", "U32"),
-    "U48": Bound("[u8; 6]", "eui48", "U48"),
-    "U64": Bound("[u8; 8]", "eui64", "U64"),
-    "Ipv4": Bound("Ipv4Addr", "ipv4", "IPv4Address", "IPv4Like"),
-    "Ipv6": Bound("Ipv6Addr", "ipv6", "IPv6Address", "IPv6Like"),
-    "TypeCode": Bound("RecordType", "record_type", "RecordType", "TypeLike"),
-    "Time": Bound("u32", "u32", "Time"),
-    "LongTime": Bound("u64", "u48", "U48"),
-    "Locator": Bound("u64", "u64", "U64"),
-    "NodeNumber": Bound("u64", "u64", "U64"),
-    "Counted Text": Bound(OCTETS, "string", "String", "StringLike"),
-    "Counted Tag": Bound(OCTETS, "string", "String", "StringLike"),
-    "Counted": Bound(OCTETS, "counted", "Counted"),
-    "LongCounted": Bound(OCTETS, "long", "Long"),
-    "Octets Text": Bound(OCTETS, "rest", "RestString", "StringLike"),
-    "Octets": Bound(OCTETS, "rest", "Rest"),
-    "Shaped": Bound(OCTETS, "shaped", "Shaped"),
-    "List Texts": Bound("Texts<'a>", "texts", "Strings", "StringsLike"),
-    "List Types": Bound("TypeSet", "types", "TypeSet", "TypesLike"),
-    "List Params": Bound("Pairs<'a>", "params", "Params"),
-    "List Prefixes": Bound("Prefixes<'a>", "prefixes", "Prefixes"),
-    "List Names": Bound("WholeNames<'a>", "whole_names", "WholeNames", "Iterable[NameLike]"),
+    "Name": Bound("NameRef<'a>", "name", "n", "Name", "NameLike"),
+    "U8": Bound("u8", "u8", "1", "int"),
+    "U16": Bound("u16", "u16", "2", "int"),
+    "U32": Bound("u32", "u32", "4", "int"),
+    "U48": Bound("[u8; 6]", "eui48", "6", "int"),
+    "U64": Bound("[u8; 8]", "eui64", "8", "int"),
+    "Ipv4": Bound("Ipv4Addr", "ipv4", "i", "IPv4Address", "IPv4Like"),
+    "Ipv6": Bound("Ipv6Addr", "ipv6", "I", "IPv6Address", "IPv6Like"),
+    "TypeCode": Bound("RecordType", "record_type", "t", "RecordType", "TypeLike"),
+    "Time": Bound("u32", "u32", "T", "int"),
+    "LongTime": Bound("u64", "u48", "6", "int"),
+    "Locator": Bound("u64", "u64", "8", "int"),
+    "NodeNumber": Bound("u64", "u64", "8", "int"),
+    "Counted Text": Bound(OCTETS, "string", "s", "bytes", "StringLike"),
+    "Counted Tag": Bound(OCTETS, "string", "s", "bytes", "StringLike"),
+    "Counted": Bound(OCTETS, "counted", "c", "bytes", "Bytes"),
+    "LongCounted": Bound(OCTETS, "long", "l", "bytes", "Bytes"),
+    "Octets Text": Bound(OCTETS, "rest", "x", "bytes", "StringLike"),
+    "Octets": Bound(OCTETS, "rest", "o", "bytes", "Bytes"),
+    "Shaped": Bound(OCTETS, "shaped", "g", "bytes", "Bytes"),
+    "List Texts": Bound("Texts<'a>", "texts", "S", "Tuple[bytes, ...]", "StringsLike"),
+    "List Types": Bound("TypeSet", "types", "B", "TypeSet", "TypesLike"),
+    "List Params": Bound("Pairs<'a>", "params", "P", "Tuple[Tuple[int, bytes], ...]", "Iterable[Tuple[int, Bytes]]"),
+    "List Prefixes": Bound("Prefixes<'a>", "prefixes", "p", "Tuple[Prefix, ...]", "Iterable[Prefix]"),
+    "List Names": Bound("WholeNames<'a>", "whole_names", "N", "Tuple[Name, ...]", "Iterable[NameLike]"),
 }
 
 

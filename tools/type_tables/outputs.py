@@ -9,12 +9,13 @@ from typing import Dict, List, Sequence, Tuple
 
 from .listed import ROOT, TABLE, fail
 
-MADE = f"made by tools/types from {TABLE}"
+MADE = "made by tools/types from"
 # How a line of a file is made a comment, by its suffix.
 COMMENTS: Dict[str, Tuple[str, str]] = {
     ".rt": ("// ", ""),
     ".rs": ("// ", ""),
     ".py": ("# ", ""),
+    ".pyi": ("# ", ""),
     ".h": ("/* ", " */"),
     ".c": ("/* ", " */"),
     ".md": ("<!-- ", " -->"),
@@ -32,9 +33,10 @@ class Whole:
 
     file: str
     text: str
+    source: str = TABLE
 
     def made(self) -> str:
-        return f"{comment(self.file, MADE + '; change it there')}\n{self.text}"
+        return f"{comment(self.file, f'{MADE} {self.source}; change it there')}\n{self.text}"
 
 
 @dataclass(frozen=True)
@@ -49,7 +51,7 @@ class Parts:
         opening = re.escape(COMMENTS[pathlib.Path(self.file).suffix][0])
         pieces = re.split(rf"(?m)(^ *{opening}made by tools/types\b.*\n)((?:.*\n)*?)(^ *{opening}made until here.*\n)", text)
         if len(pieces) != 4 * len(self.parts) + 1:
-            fail(self.file, f"there are not {len(self.parts)} parts, each between {comment(self.file, MADE)} and {comment(self.file, 'made until here')}")
+            fail(self.file, f"there are not {len(self.parts)} parts, each between {comment(self.file, f'{MADE} ..')} and {comment(self.file, 'made until here')}")
         pieces[2::4] = list(self.parts)
         return "".join(pieces)
 
