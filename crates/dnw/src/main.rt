@@ -8,16 +8,13 @@ use std::process::ExitCode;
 
 fn main(rt: HostRuntime) -> ExitCode {
     let is_terminal = rt.stderr().is_terminal();
-    let (mut input, mut out, mut errors) = (rt.reader(), io::writer(&rt), rt.stderr());
-    match run(
+    let status = run(
         &rt,
-        &mut input,
-        &mut out,
-        &mut errors,
+        &mut rt.reader(),
+        io::writer(&rt),
+        rt.stderr(),
         rt.stderr(),
         is_terminal,
-    ) {
-        Ok(status) => ExitCode::from(status),
-        Err(_) => ExitCode::FAILURE,
-    }
+    );
+    ExitCode::from(status)
 }

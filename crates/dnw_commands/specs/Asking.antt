@@ -2,7 +2,7 @@
 use Rattle.std.specs.Prelude.{◌≡◌, ◌⊎◌, ℕ, ◌+◌, min, Bool, true, false, List, ◌++◌, length, take, replicate, if◌then◌else◌}
 use Rattle.std.specs.Int.{w16, to_be_bytes}
 use Rattle.dns_names_wire.specs.Words.{AddsItem, AddsOpt, BeginsMessage, FailsToAdd, FailsToAddOpt, Queries, WriterState, max_u16, question_form, question_past}
-use Rattle.dns_names_wire.specs.Words.{released, slot_of, type_code}
+use Rattle.dns_names_wire.specs.Words.{class_code, released, slot_of, type_code}
 use Rattle.dns_names_wire.specs.declared.message_writer.Edns.{Edns}
 use Rattle.dns_names_wire.specs.declared.message_writer.WriteError.{WriteError}
 use Rattle.dnw_commands.specs.Refusals.{IsMemory}
@@ -13,10 +13,6 @@ use Rattle.dnw_commands.specs.declared.queries.written.Asked.{Asked}
 -- RD, by which recursion is asked for (RFC 1035, section 4.1.1)
 abbrev pub asking : ℕ
 asking = 256
-
--- the code of IN
-abbrev pub in_code : ℕ
-in_code = 1
 
 -- the octets of the greatest query without options: a header, the longest name, a type and a class, and an OPT record
 abbrev pub max_query : ℕ
@@ -38,7 +34,7 @@ BeginsAsking asked w m = BeginsMessage asked.id asking (query_room asked) (repli
 unfoldable pub HasQuestion : Asked → WriterState → List ℕ → Type 0
 HasQuestion asked w m =
     (v : WriterState) × (n : List ℕ) × BeginsAsking asked v n
-    × AddsItem Queries (question_form slot_of asked.name.labels (type_code asked.record_type) in_code) v n w m
+    × AddsItem Queries (question_form slot_of asked.name.labels (type_code asked.record_type) (class_code asked.class)) v n w m
 
 -- EDNS as a query says it (RFC 6891, section 6.1): that size, DO and the options
 abbrev pub IsEdnsOf : Asked → Edns → Type 0

@@ -4,15 +4,24 @@
 mod given;
 /// Why words ask for nothing that the program does.
 mod misuse;
+/// Where answers are written, and what is wrong.
+mod output;
+/// Words and names of files, as they are printed.
+mod plain;
 /// A line on a terminal that says how far long work is.
 mod progress;
 /// Why there is no answer.
 pub(crate) mod refusal;
+/// Octets that are read in parts.
+mod window;
 /// The words after a command: its options, in any order, and the others.
 mod words;
 
-pub(crate) use given::{contents, octets, word_octets};
+pub(crate) use given::{Octets, all_of, contents, octets, open, unread, word_octets};
 pub(crate) use misuse::Misuse;
+pub(crate) use output::{Output, Sink, said_of};
+pub(crate) use plain::{plain, push_octet};
 pub(crate) use progress::{Progress, Watch};
 pub(crate) use refusal::Refusal;
+pub(crate) use window::{Window, line_len};
 pub(crate) use words::{Given, Known};

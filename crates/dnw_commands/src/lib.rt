@@ -7,6 +7,8 @@
 mod answer;
 /// What the commands share.
 mod base;
+/// What `--help` and `--version` show.
+mod help;
 /// Whole messages.
 mod messages;
 /// Names, and the sums of DNSSEC over single records and names.
@@ -17,57 +19,45 @@ mod queries;
 mod zones;
 
 use answer::answer;
-use base::{Misuse, Progress, Watch};
+use base::{Misuse, Output, Progress, Refusal, Watch};
 use std::io::{Read, Write};
 use std::random::RandomSource;
 use std::rt::{Env, Files};
 use std::time::Clock;
 use std::{env, io};
 
-/// Does what the program's words ask for, and returns the exit status: 0 for an answer, 1 if a name, a message or an entry is rejected,
-/// and 2 for words that ask for nothing that the program does, of which a line in `errors` says why.
+/// Does what the program's words ask for, and returns the exit status: 0 for an answer, 1 if something that is given is rejected, 2 for
+/// words that ask for nothing that the program does, and 3 if the answer cannot be written. If it is not 0, lines in `errors` say why.
 ///
-/// If `is_terminal`, a line on `terminal` says how far long work is. It fails if a word cannot be read, or the answer not written.
+/// If `is_terminal`, a line on `terminal` says how far long work is.
 pub fn run<
     E: Env + Files + RandomSource + Clock + AllocGlobal,
     I: Read,
-    W: Write,
-    X: Write,
+    W: Write + Drop,
+    X: Write + Drop,
     T: Write + Drop,
->(
-    env: &E,
-    input: &mut I,
-    out: &mut W,
-    errors: &mut X,
-    terminal: T,
-    is_terminal: bool,
-) -> io::Result<u8> {
+>(env: &E, input: &mut I, out: W, errors: X, terminal: T, is_terminal: bool) -> u8 {
     let mut progress = Progress::new(env.alloc(), env, terminal, is_terminal);
-    answered(env, input, out, errors, &mut progress)
+    let mut out = Output::new(env.alloc(), out, errors);
+    let answered = match words(env) {
+        Ok(words) => answer(env, words.as_slice(), input, &mut out, &mut progress),
+        Err(refusal) => Err(refusal),
+    };
+    progress.ends();
+    out.finish(answered)
 }
 
-/// Answers the program's words.
-fn answered<E: Env + Files + RandomSource + AllocGlobal, I: Read, W: Write, X: Write, P: Watch>(
-    env: &E,
-    input: &mut I,
-    out: &mut W,
-    errors: &mut X,
-    watch: &mut P,
-) -> io::Result<u8> {
-    match words(env) {
-        Ok(words) => answer(env, Ok(words.as_slice()), input, out, errors, watch),
-        Err(e) if e.kind() == io::ErrorKind::InvalidData => {
-            answer(env, Err(Misuse::NotText), input, out, errors, watch)
-        }
-        Err(e) => Err(e),
-    }
-}
-
-/// The words after the program's name. It fails with `InvalidData` if one of them is not UTF-8.
-fn words<E: Env + AllocGlobal>(env: &E) -> io::Result<Vec<String>> {
+/// The words after the program's name. It fails if they cannot be read, or if one of them is not UTF-8.
+fn words<E: Env + AllocGlobal>(env: &E) -> Result<Vec<String>, Refusal> {
     let mut words = Vec::new(env.alloc());
-    for word in env::args(env)?.skip(1) {
-        words.push(word)?;
+    match env::args(env) {
+        Ok(given) => {
+            for word in given.skip(1) {
+                words.push(word)?;
+            }
+            Ok(words)
+        }
+        Err(error) if error.kind() == io::ErrorKind::InvalidData => Err(Misuse::NotText.into()),
+        Err(error) => Err(Refusal::Words(error)),
     }
-    Ok(words)
 }

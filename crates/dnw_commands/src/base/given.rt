@@ -5,13 +5,61 @@ ghost use Rattle.dnw_commands.specs.Refusals.{IsMemory, SaysWrong};
 ghost use Rattle.dnw_commands.specs.declared.base.refusal.Refusal.TheVariants.{Digits};
 
 use crate::base::misuse::Misuse;
+use crate::base::plain::plain;
 use crate::base::refusal::Refusal;
+use crate::base::window::Window;
 use dns_names_wire::ProtoError;
 use hex::FromHexError;
 use std::alloc::Global;
 use std::io::Read;
 use std::rt::Files;
 use std::{fs, io};
+
+/// Where octets come from.
+#[derive(Drop)]
+pub(crate) enum Octets<'a, I, F> {
+    /// A word.
+    Word(&'a [u8]),
+    /// Standard input.
+    Input(&'a mut I),
+    /// A file that is open.
+    File(F),
+}
+
+impl<I: Read, F: Read> Read for Octets<'_, I, F> {
+    fn read(&mut self, buf: &mut [u8]) -> io::Result<usize> {
+        match self {
+            Octets::Word(octets) => octets.read(buf),
+            Octets::Input(input) => input.read(buf),
+            Octets::File(file) => file.read(buf),
+        }
+    }
+}
+
+/// Opens a file, or standard input if the file is `-`.
+pub(crate) fn open<'a, E: Files, I: Read>(
+    env: &E,
+    alloc: Global,
+    file: &str,
+    input: &'a mut I,
+) -> Result<Window<Octets<'a, I, E::File>>, Refusal> {
+    if file == "-" {
+        return Ok(Window::new(alloc, Octets::Input(input)));
+    }
+    match fs::open(env, file) {
+        Ok(opened) => Ok(Window::new(alloc, Octets::File(opened))),
+        Err(error) => Err(unread(alloc, file, error)),
+    }
+}
+
+/// Why a file, or standard input if it is `-`, is not read.
+pub(crate) fn unread(alloc: Global, file: &str, error: io::Error) -> Refusal {
+    let file = if file == "-" { "standard input" } else { file };
+    match plain(alloc, file) {
+        Ok(file) => Refusal::File { file, error },
+        Err(e) => e.into(),
+    }
+}
 
 /// All octets of a file, or of standard input if the file is `-`.
 pub(crate) fn contents<E: Files, I: Read>(
@@ -20,24 +68,24 @@ pub(crate) fn contents<E: Files, I: Read>(
     file: &str,
     input: &mut I,
 ) -> Result<Vec<u8>, Refusal> {
-    let mut octets = Vec::new(alloc);
-    if file == "-" {
-        input.read_to_end(&mut octets)?;
-        return Ok(octets);
-    }
-    match read_file(env, file, &mut octets) {
-        Ok(()) => Ok(octets),
-        Err(error) => Err(Refusal::File {
-            file: String::from_str(alloc, file)?,
-            error,
-        }),
-    }
+    let mut window = open(env, alloc, file, input)?;
+    all_of(alloc, file, &mut window, usize::MAX)
 }
 
-/// Appends all octets of a file.
-fn read_file<E: Files>(env: &E, file: &str, octets: &mut Vec<u8>) -> io::Result<()> {
-    fs::open(env, file)?.read_to_end(octets)?;
-    Ok(())
+/// All octets of a file, if these are at most so many.
+pub(crate) fn all_of<R: Read>(
+    alloc: Global,
+    file: &str,
+    window: &mut Window<R>,
+    most: usize,
+) -> Result<Vec<u8>, Refusal> {
+    if let Err(error) = window.fill_to(most.saturating_add(1)) {
+        return Err(unread(alloc, file, error));
+    }
+    if most < window.left().len() {
+        return Err(Refusal::TooLong(most));
+    }
+    Ok(Vec::from_slice(alloc, window.left())?)
 }
 
 /// Returns the octets that a word of hexadecimal digits stands for.

@@ -2,6 +2,7 @@
 
 ghost use Rattle.dnw_commands.specs.Refusals.{SaysWrong};
 
+use crate::base::plain::plain;
 use crate::base::refusal::Refusal;
 use std::alloc::Global;
 use thiserror::Error;
@@ -59,7 +60,7 @@ impl Misuse {
     pub(crate) fn wrong(alloc: Global, wanted: &'static str, found: &str) -> Refusal
         ensures { SaysWrong wanted.now found.now result }
     {
-        match String::from_str(alloc, found) {
+        match plain(alloc, found) {
             Ok(found) => Misuse::Wrong { wanted, found }.into(),
             Err(e) => e.into(),
         }

@@ -16,13 +16,10 @@ const STEP_PATIENCE: u128 = 300;
 /// How long a line stands before it is written anew, in milliseconds.
 const PAUSE: u128 = 200;
 
-/// The clock is read in one of so many calls, the first among them.
-const CALLS_A_LOOK: u32 = 256;
-
 /// Who is told how far long work is.
 pub(crate) trait Watch {
-    /// Says that of all octets that are read so many are done.
-    fn is_at(&mut self, done: usize, all: usize);
+    /// Says that so many octets are read, of so many, or of 0 if it is not known how many they are.
+    fn is_at(&mut self, done: u64, all: u64);
 
     /// Says that the reading has ended, and which step begins, over so many records.
     fn begins(&mut self, step: &str, records: usize);
@@ -39,8 +36,6 @@ pub(crate) struct Progress<'a, C, W> {
     terminal: W,
     /// When the work began, or `None` if nothing is shown.
     began: Option<Instant>,
-    /// How often the work said where it is.
-    calls: u32,
     /// How many milliseconds after the beginning the next line may be written.
     next: u128,
     /// Whether a line stands there.
@@ -62,7 +57,6 @@ impl<'a, C: Clock, W: Write> Progress<'a, C, W> {
             clock,
             terminal,
             began,
-            calls: 0,
             next: PATIENCE,
             is_shown: false,
         }
@@ -103,19 +97,15 @@ impl<'a, C: Clock, W: Write> Progress<'a, C, W> {
 }
 
 impl<'a, C: Clock, W: Write> Watch for Progress<'a, C, W> {
-    fn is_at(&mut self, done: usize, all: usize)
+    fn is_at(&mut self, done: u64, all: u64)
         ensures { self.old.began ≡ None → self.new ≡ self.old }
     {
-        if self.began.is_none() {
-            return;
-        }
-        let is_look = self.calls.is_multiple_of(CALLS_A_LOOK);
-        self.calls = self.calls.wrapping_add(1);
-        if is_look {
-            let percent = percent(done, all);
-            if let Ok(line) = format!(in self.alloc; "read {percent} %") {
-                self.show_after(self.next, line.as_str());
-            }
+        let line = match all {
+            0 => format!(in self.alloc; "read {done} octets"),
+            _ => format!(in self.alloc; "read {} %", percent(done, all)),
+        };
+        if let Ok(line) = line {
+            self.show_after(self.next, line.as_str());
         }
     }
 
@@ -140,11 +130,11 @@ impl<'a, C: Clock, W: Write> Watch for Progress<'a, C, W> {
 }
 
 /// Returns how many hundredths of all are done, rounded down. Of nothing all is done.
-fn percent(done: usize, all: usize) -> u128
+fn percent(done: u64, all: u64) -> u128
     ensures { 0 < all → result ≡ done * 100 / all }
 {
     if all == 0 {
         return 100;
     }
-    u128::from(done as u64) * 100 / u128::from(all as u64)
+    u128::from(done) * 100 / u128::from(all)
 }

@@ -19,10 +19,13 @@ pub(crate) enum Refusal {
     /// The words ask for nothing that the program does.
     #[error("{0}")]
     Usage(Misuse),
-    /// Standard input could not be read.
-    #[error("refused: standard input: {0}")]
-    Input(io::Error),
-    /// A file could not be opened or read.
+    /// The words could not be read.
+    #[error("the words are not read: {0}")]
+    Words(io::Error),
+    /// The answer could not be written.
+    #[error("the answer is not written: {0}")]
+    Output(io::Error),
+    /// A file, or standard input, could not be opened or read.
     #[error("refused: {file}: {error}")]
     File {
         /// The file.
@@ -45,6 +48,9 @@ pub(crate) enum Refusal {
     /// There is something else than hexadecimal digits, two for each octet.
     #[error("refused: wanted hexadecimal digits, two for each octet")]
     Digits,
+    /// A line is not UTF-8.
+    #[error("refused: wanted UTF-8")]
+    NoText,
     /// A stream of messages ends within a length or a message.
     #[error("refused: wanted {wanted} octets, found {found}")]
     Cut {
@@ -53,9 +59,9 @@ pub(crate) enum Refusal {
         /// How many are left.
         found: usize,
     },
-    /// Some of many messages were refused: the text of all, with the lines that say why.
-    #[error("{0}")]
-    Messages(String),
+    /// What is to be read at once is too long.
+    #[error("refused: more than {0} octets")]
+    TooLong(usize),
     /// The options of a query are too many.
     #[error("refused: the options have more than 32768 octets")]
     Options,
@@ -77,9 +83,6 @@ pub(crate) enum Refusal {
     /// A zone is not checked.
     #[error("refused: {0}")]
     Check(CheckError),
-    /// A zone file has entries that are none: the lines that say where, and why.
-    #[error("{0}")]
-    Zone(String),
 }
 
 impl From<Misuse> for Refusal {
@@ -101,17 +104,6 @@ impl From<NameTextError> for Refusal {
 
     fn from(e: NameTextError) -> Self {
         Refusal::Name(e)
-    }
-}
-
-impl From<io::Error> for Refusal {
-    ghost use Rattle.std.specs.Prelude.{◌≡◌};
-    ghost use Rattle.dnw_commands.specs.declared.base.refusal.Refusal.TheVariants.{Input};
-
-    ghost from_gives = { λ error refusal. refusal ≡ Input error };
-
-    fn from(e: io::Error) -> Self {
-        Refusal::Input(e)
     }
 }
 

@@ -2,6 +2,7 @@
 ghost use Rattle.std.specs.Prelude.{◌≤◌, length, IfOk};
 
 use crate::base::misuse::Misuse;
+use crate::base::plain::plain;
 use crate::base::refusal::Refusal;
 use std::alloc::Global;
 
@@ -114,6 +115,17 @@ impl<'w> Given<'w> {
         None
     }
 
+    /// The values of an option that may be there often, in their order.
+    pub(crate) fn values(&self, alloc: Global, name: &str) -> Result<Vec<&'w str>, Refusal> {
+        let mut values = Vec::new(alloc);
+        for (option, value) in &self.options {
+            if *option == name {
+                values.push(*value)?;
+            }
+        }
+        Ok(values)
+    }
+
     /// The one option of these that is there, if any is. It fails if two are.
     pub(crate) fn one_of(&self, names: &[&'static str]) -> Result<Option<&'static str>, Refusal> {
         let mut found = None;
@@ -127,13 +139,21 @@ impl<'w> Given<'w> {
         Ok(found)
     }
 
+    /// The words that are no options, at least one. It fails if there is none, with what it has to be.
+    pub(crate) fn some(&self, name: &'static str) -> Result<&[&'w str], Refusal> {
+        if self.plain.is_empty() {
+            return Err(Misuse::Missing(name).into());
+        }
+        Ok(self.plain.as_slice())
+    }
+
     /// Why the words that are no options are too few or too many, if these are what they have to be.
     pub(crate) fn wrong_count(&self, alloc: Global, names: &[&'static str]) -> Refusal {
         if let Some(name) = names.get(self.plain.len()) {
             return Misuse::Missing(*name).into();
         }
         let extra = self.plain.get(names.len()).copied().unwrap_or_default();
-        match String::from_str(alloc, extra) {
+        match plain(alloc, extra) {
             Ok(extra) => Misuse::Extra(extra).into(),
             Err(e) => e.into(),
         }
@@ -147,5 +167,5 @@ fn option_of(alloc: Global, name: &str, known: &[Known]) -> Result<Known, Refusa
             return Ok(*option);
         }
     }
-    Err(Misuse::Option(String::from_str(alloc, name)?).into())
+    Err(Misuse::Option(plain(alloc, name)?).into())
 }

@@ -1,6 +1,6 @@
 //! What the words after `dnw message` ask for.
 
-use crate::base::{Given, Known, Refusal, Watch, contents, octets};
+use crate::base::{Given, Known, Octets, Refusal, Sink, Window, all_of, octets, open, said_of};
 use crate::messages::page::Page;
 use dns_names_wire::message::MessageRef;
 use dns_names_wire::message_text::{message_json, message_text};
@@ -35,42 +35,39 @@ const OPTIONS: [Known; 3] = [
     Known::Flag("--json"),
 ];
 
-/// What the words after the command ask for.
+/// The most octets of a text or a file that has one message, and of a line: the digits of the greatest message, with as much white
+/// space and more.
+pub(crate) const MAX_TEXT: usize = 1_048_576;
+
+/// What the options ask for.
 #[derive(Clone, Copy)]
-struct Wanted<'w> {
-    /// Hexadecimal digits, or else the name of a file.
-    source: &'w str,
+struct Wanted {
     form: Form,
     layout: Layout,
 }
 
-/// Returns the messages of the source that the words name, as they ask for. If there are many, each that is refused has a line
-/// that says why, and all of them are a refusal.
-pub(crate) fn messages<E: Files, I: Read, P: Watch>(
+/// Shows the messages of the sources that the words name, as they ask for: each as soon as it is there. If there are many in a source,
+/// each that is rejected has a line that says why.
+pub(crate) fn messages<E: Files, I: Read, O: Sink>(
     env: &E,
     alloc: Global,
     words: &[String],
     input: &mut I,
-    watch: &mut P,
-) -> Result<String, Refusal> {
-    let wanted = wanted_of(alloc, words)?;
-    let given = given(env, alloc, wanted.source, input)?;
-    match wanted.form {
-        Form::One => {
-            let message = message_octets(alloc, given)?;
-            shown(alloc, message.as_slice(), wanted.layout)
-        }
-        Form::Lines => Page::of_lines(alloc, wanted.layout, given.as_slice(), watch),
-        Form::Framed => {
-            let stream = message_octets(alloc, given)?;
-            Page::of_frames(alloc, wanted.layout, stream.as_slice(), watch)
-        }
+    out: &mut O,
+) -> Result<(), Refusal> {
+    let given = Given::of(alloc, words, &OPTIONS)?;
+    let wanted = wanted_of(&given)?;
+    let sources = given.some("HEX, FILE or -")?;
+    let mut page = Page::new(wanted.layout);
+    for source in sources {
+        let shown = show(env, alloc, source, wanted.form, input, &mut page, out);
+        said_of(alloc, source, 1 < sources.len(), shown, out)?;
     }
+    Ok(())
 }
 
-/// What the words ask for: one source, and each option at most once, in any order.
-fn wanted_of(alloc: Global, words: &[String]) -> Result<Wanted<'_>, Refusal> {
-    let given = Given::of(alloc, words, &OPTIONS)?;
+/// What the options ask for.
+fn wanted_of(given: &Given<'_>) -> Result<Wanted, Refusal> {
     let form = match given.one_of(&["--lines", "--framed"])? {
         Some("--lines") => Form::Lines,
         Some(_) => Form::Framed,
@@ -81,29 +78,45 @@ fn wanted_of(alloc: Global, words: &[String]) -> Result<Wanted<'_>, Refusal> {
     } else {
         Layout::Dig
     };
-    let [source] = given.plain.as_slice() else {
-        return Err(given.wrong_count(alloc, &["HEX, FILE or -"]));
-    };
-    Ok(Wanted {
-        source: *source,
-        form,
-        layout,
-    })
+    Ok(Wanted { form, layout })
 }
 
-/// The octets that a source has: a word of hexadecimal digits alone has itself, and another is the name of a file, or `-`.
-fn given<E: Files, I: Read>(
+/// Shows the messages of a source.
+fn show<E: Files, I: Read, O: Sink>(
     env: &E,
     alloc: Global,
     source: &str,
+    form: Form,
     input: &mut I,
-) -> Result<Vec<u8>, Refusal> {
+    page: &mut Page,
+    out: &mut O,
+) -> Result<(), Refusal> {
+    let mut window = opened(env, alloc, source, input)?;
+    match form {
+        Form::One => {
+            let given = all_of(alloc, source, &mut window, MAX_TEXT)?;
+            let message = message_octets(alloc, given)?;
+            let text = shown(alloc, message.as_slice(), page.layout)?;
+            page.add(alloc, Ok(text), out)
+        }
+        Form::Lines => page.add_lines(alloc, source, &mut window, out),
+        Form::Framed => page.add_frames(alloc, source, &mut window, out),
+    }
+}
+
+/// Opens a source: a word of hexadecimal digits alone has itself, and another is the name of a file, or `-`.
+fn opened<'a, E: Files, I: Read>(
+    env: &E,
+    alloc: Global,
+    source: &'a str,
+    input: &'a mut I,
+) -> Result<Window<Octets<'a, I, E::File>>, Refusal> {
     for byte in source.as_bytes() {
         if !byte.is_ascii_hexdigit() {
-            return contents(env, alloc, source, input);
+            return open(env, alloc, source, input);
         }
     }
-    Ok(Vec::from_slice(alloc, source.as_bytes())?)
+    Ok(Window::new(alloc, Octets::Word(source.as_bytes())))
 }
 
 /// The octets of a message. If all that is given is hexadecimal digits, spaces and ends of lines, the digits are the octets; else

@@ -1,156 +1,215 @@
 //! Many messages, one after the other.
 
-use crate::base::{Refusal, Watch, octets};
-use crate::messages::command::{Layout, shown};
+use crate::base::{Refusal, Sink, Window, line_len, octets, unread};
+use crate::messages::command::{Layout, MAX_TEXT, shown};
 use std::alloc::Global;
+use std::io::{ErrorKind, Read};
 
-/// The text of messages, and of why some were refused.
-#[derive(Drop)]
+/// How many octets a stream of messages begins with at least: a length, and a header (RFC 1035, section 4.1.1).
+const FRONT: usize = 14;
+
+/// Messages that are shown, one after the other.
+#[derive(Clone, Copy)]
 pub(crate) struct Page {
-    layout: Layout,
-    text: String,
+    pub(crate) layout: Layout,
     /// How many messages there were.
     count: u64,
-    has_refused: bool,
+    /// Whether what comes is the rest of a line that is too long.
+    is_cut: bool,
 }
 
 impl Page {
-    /// Creates a text without a message.
-    fn new(alloc: Global, layout: Layout) -> Self {
+    /// Creates a page without a message.
+    pub(crate) fn new(layout: Layout) -> Self {
         Page {
             layout,
-            text: String::new(alloc),
             count: 0,
-            has_refused: false,
+            is_cut: false,
         }
     }
 
-    /// Returns the messages of a text that has each as a line of hexadecimal digits, in which white space says nothing.
-    pub(crate) fn of_lines<P: Watch>(
-        alloc: Global,
-        layout: Layout,
-        text: &[u8],
-        watch: &mut P,
-    ) -> Result<String, Refusal> {
-        let mut page = Page::new(alloc, layout);
-        page.add_lines(alloc, text, watch)?;
-        page.finish()
-    }
-
-    /// Returns the messages of a stream that has the length of each in two octets before it.
-    pub(crate) fn of_frames<P: Watch>(
-        alloc: Global,
-        layout: Layout,
-        stream: &[u8],
-        watch: &mut P,
-    ) -> Result<String, Refusal> {
-        let mut page = Page::new(alloc, layout);
-        page.add_frames(alloc, stream, watch)?;
-        page.finish()
-    }
-
-    /// Adds the messages of lines.
-    fn add_lines<P: Watch>(
+    /// Adds the messages of a text that has each as a line of hexadecimal digits, in which white space says nothing.
+    pub(crate) fn add_lines<R: Read, O: Sink>(
         &mut self,
         alloc: Global,
-        text: &[u8],
-        watch: &mut P,
+        source: &str,
+        text: &mut Window<R>,
+        out: &mut O,
     ) -> Result<(), Refusal> {
-        let mut digits = String::new(alloc);
-        for (at, byte) in text.iter().enumerate() {
-            if *byte == b'\n' {
-                watch.is_at(at, text.len());
-                self.add_digits(alloc, digits.as_str())?;
-                digits.clear();
-            } else if !byte.is_ascii_whitespace() {
-                digits.push(char::from(*byte))?;
+        for _ in 0..u64::MAX {
+            if let Some(len) = line_len(text.left()) {
+                self.add_line(alloc, text.left().get(..len).unwrap_or_default(), out)?;
+                text.take(len.saturating_add(1));
+            } else if MAX_TEXT < text.left().len() {
+                self.cut_line(alloc, out)?;
+                text.take(usize::MAX);
+            } else if text.is_done() {
+                return self.add_line(alloc, text.left(), out);
+            } else {
+                out.flush()?;
+                filled(alloc, source, text)?;
             }
         }
-        self.add_digits(alloc, digits.as_str())
+        Ok(())
     }
 
-    /// Adds the message of a line, if the line is not empty.
-    fn add_digits(&mut self, alloc: Global, digits: &str) -> Result<(), Refusal> {
+    /// Adds a line that says that one is too long, if that is its beginning.
+    fn cut_line<O: Sink>(&mut self, alloc: Global, out: &mut O) -> Result<(), Refusal> {
+        if self.is_cut {
+            return Ok(());
+        }
+        self.is_cut = true;
+        self.add(alloc, Err(Refusal::TooLong(MAX_TEXT)), out)
+    }
+
+    /// Adds the message of a line, or of its rest if it was too long.
+    fn add_line<O: Sink>(
+        &mut self,
+        alloc: Global,
+        line: &[u8],
+        out: &mut O,
+    ) -> Result<(), Refusal> {
+        if self.is_cut {
+            self.is_cut = false;
+            return Ok(());
+        }
+        let digits = digits_of(alloc, line)?;
         if digits.is_empty() {
             return Ok(());
         }
-        match octets(alloc, digits) {
-            Ok(message) => self.add(shown(alloc, message.as_slice(), self.layout)),
-            Err(Refusal::Digits) => self.add(Err(Refusal::Digits)),
+        let message = octets(alloc, digits.as_str());
+        self.add_octets(alloc, message, out)
+    }
+
+    /// Adds a message by its octets, or by why these are not there.
+    fn add_octets<O: Sink>(
+        &mut self,
+        alloc: Global,
+        message: Result<Vec<u8>, Refusal>,
+        out: &mut O,
+    ) -> Result<(), Refusal> {
+        match message {
+            Ok(message) => self.add(alloc, shown(alloc, message.as_slice(), self.layout), out),
+            Err(Refusal::Digits) => self.add(alloc, Err(Refusal::Digits), out),
             Err(refusal) => Err(refusal),
         }
     }
 
-    /// Adds the messages of a stream, and a line if it ends within one.
-    fn add_frames<P: Watch>(
+    /// Adds the messages of a stream that has the length of each in two octets before it. If it begins with hexadecimal digits and
+    /// white space alone, so many as a length and a header have, these stand for its octets.
+    pub(crate) fn add_frames<R: Read, O: Sink>(
         &mut self,
         alloc: Global,
-        stream: &[u8],
-        watch: &mut P,
+        source: &str,
+        given: &mut Window<R>,
+        out: &mut O,
     ) -> Result<(), Refusal> {
-        let mut left = stream;
-        for _ in 0..stream.len() {
-            watch.is_at(stream.len().saturating_sub(left.len()), stream.len());
-            let Some((message, after)) = frame_of(left) else {
-                break;
-            };
-            self.add(shown(alloc, message, self.layout))?;
-            left = after;
+        if let Err(error) = given.fill_to(FRONT) {
+            return Err(unread(alloc, source, error));
         }
-        match cut_of(left) {
-            Some(cut) => self.add(Err(cut)),
+        if are_digits(given.left()) && given.decode().is_err() {
+            return Err(Refusal::Digits);
+        }
+        self.add_binary(alloc, source, given, out)
+    }
+
+    /// Adds the messages of a stream, and a line if it ends within one.
+    fn add_binary<R: Read, O: Sink>(
+        &mut self,
+        alloc: Global,
+        source: &str,
+        stream: &mut Window<R>,
+        out: &mut O,
+    ) -> Result<(), Refusal> {
+        for _ in 0..u64::MAX {
+            if let Some(message) = frame_of(stream.left()) {
+                let len = message.len();
+                self.add(alloc, shown(alloc, message, self.layout), out)?;
+                stream.take(len.saturating_add(2));
+            } else if stream.is_done() {
+                break;
+            } else {
+                out.flush()?;
+                filled(alloc, source, stream)?;
+            }
+        }
+        match cut_of(stream.left()) {
+            Some(cut) => self.add(alloc, Err(cut), out),
             None => Ok(()),
         }
     }
 
     /// Adds a message, or a line that says why there is none.
-    fn add(&mut self, shown: Result<String, Refusal>) -> Result<(), Refusal> {
+    pub(crate) fn add<O: Sink>(
+        &mut self,
+        alloc: Global,
+        shown: Result<String, Refusal>,
+        out: &mut O,
+    ) -> Result<(), Refusal> {
         self.count = self.count.saturating_add(1);
         if self.layout == Layout::Dig && self.count > 1 {
-            self.text.push('\n')?;
+            out.put_line("")?;
         }
         match shown {
-            Ok(text) => self.add_line(text.as_str()),
-            Err(refusal) => self.add_refusal(&refusal),
+            Ok(text) => out.put_line(text.as_str()),
+            Err(refusal) => self.add_refusal(alloc, &refusal, out),
         }
     }
 
-    fn add_line(&mut self, line: &str) -> Result<(), Refusal> {
-        self.text.push_str(line)?;
-        self.text.push('\n')?;
-        Ok(())
-    }
-
-    fn add_refusal(&mut self, refusal: &Refusal) -> Result<(), Refusal> {
-        self.has_refused = true;
+    fn add_refusal<O: Sink>(
+        &self,
+        alloc: Global,
+        refusal: &Refusal,
+        out: &mut O,
+    ) -> Result<(), Refusal> {
         let count = self.count;
-        let added = match self.layout {
-            Layout::Dig => writeln!(self.text, "message {count}: {refusal}"),
+        let line = match self.layout {
+            Layout::Dig => format!(in alloc; "message {count}: {refusal}")?,
             Layout::Json => {
-                writeln!(self.text, "{{\"message\":{count},\"error\":\"{refusal}\"}}")
+                format!(in alloc; "{{\"message\":{count},\"error\":\"{refusal}\"}}")?
             }
         };
-        Ok(added?)
-    }
-
-    /// Returns the text without the end of its last line, as a refusal if a message was refused.
-    fn finish(mut self) -> Result<String, Refusal> {
-        self.text.pop();
-        if self.has_refused {
-            Err(Refusal::Messages(self.text))
-        } else {
-            Ok(self.text)
-        }
+        out.reject();
+        out.put_line(line.as_str())
     }
 }
 
-/// Returns the first message of a stream, and what is after it.
-fn frame_of(stream: &[u8]) -> Option<(&[u8], &[u8])> {
+/// Reads more of a source.
+fn filled<R: Read>(alloc: Global, source: &str, window: &mut Window<R>) -> Result<(), Refusal> {
+    match window.fill() {
+        Ok(()) => Ok(()),
+        Err(error) if error.kind() == ErrorKind::InvalidData => Err(Refusal::Digits),
+        Err(error) => Err(unread(alloc, source, error)),
+    }
+}
+
+/// Returns the characters of a line without white space.
+fn digits_of(alloc: Global, line: &[u8]) -> Result<String, Refusal> {
+    let mut digits = String::new(alloc);
+    for byte in line {
+        if !byte.is_ascii_whitespace() {
+            digits.push(char::from(*byte))?;
+        }
+    }
+    Ok(digits)
+}
+
+/// Returns whether the front of a stream is hexadecimal digits and white space alone.
+fn are_digits(stream: &[u8]) -> bool {
+    for byte in stream.iter().take(FRONT) {
+        if !byte.is_ascii_hexdigit() && !byte.is_ascii_whitespace() {
+            return false;
+        }
+    }
+    true
+}
+
+/// Returns the first message of a stream.
+fn frame_of(stream: &[u8]) -> Option<&[u8]> {
     let [high, low, rest @ ..] = stream else {
         return None;
     };
-    let wanted = usize::from(u16::from_be_bytes([*high, *low]));
-    rest.split_at_checked(wanted)
+    rest.get(..usize::from(u16::from_be_bytes([*high, *low])))
 }
 
 /// Returns why what is left of a stream has no message, if anything is left.

@@ -55,7 +55,7 @@ fn push_line(alloc: Global, shown: Shown, word: &str, text: &mut String) -> Resu
 }
 
 /// Returns the line of a word.
-fn line(alloc: Global, shown: Shown, word: &str) -> Result<String, Refusal>
+pub(crate) fn line(alloc: Global, shown: Shown, word: &str) -> Result<String, Refusal>
     ensures ok { IfOk result (λ line. IsLineOf shown word.now (string_bytes line)) }
     ensures err { IfErr result (λ refusal. FailsWord shown word.now refusal ⊎ IsMemory refusal) }
 {

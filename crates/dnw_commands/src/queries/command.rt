@@ -1,7 +1,8 @@
 //! What the words after `dnw query` ask for.
 
-use crate::base::{Given, Known, Misuse, Refusal, word_octets};
+use crate::base::{Given, Known, Misuse, Refusal, Sink, word_octets};
 use crate::queries::written::{Asked, digits, query};
+use dns_names_wire::dns_class::DNSClass;
 use dns_names_wire::field_text::parse_u16;
 use dns_names_wire::name::Name;
 use dns_names_wire::record_type::RecordType;
@@ -23,40 +24,54 @@ const OPTIONS: [Known; 5] = [
     Known::Flag("--tcp"),
 ];
 
-/// Returns the query that the words ask for, in hexadecimal digits.
-pub(crate) fn query_of<E: RandomSource>(
+/// Shows the query that the words ask for, in hexadecimal digits.
+pub(crate) fn query_of<E: RandomSource, O: Sink>(
     env: &E,
     alloc: Global,
     words: &[String],
-) -> Result<String, Refusal> {
+    out: &mut O,
+) -> Result<(), Refusal> {
     let given = Given::of(alloc, words, &OPTIONS)?;
-    let [name, record_type] = given.plain.as_slice() else {
-        return Err(given.wrong_count(alloc, &["NAME", "TYPE"]));
-    };
-    let Some(record_type) = RecordType::from_text(record_type) else {
-        return Err(Misuse::wrong(alloc, "a record type", record_type));
-    };
-    let asked = asked_of(env, alloc, &given, name, record_type)?;
-    digits(alloc, query(alloc, &asked)?.as_slice(), given.has("--tcp"))
+    let asked = asked_of(env, alloc, &given)?;
+    let message = query(alloc, &asked)?;
+    out.put_line(digits(alloc, message.as_slice(), given.has("--tcp"))?.as_str())
 }
 
-/// What the words ask for, by the name, the type and the options.
-fn asked_of<E: RandomSource>(
-    env: &E,
-    alloc: Global,
-    given: &Given<'_>,
-    name: &str,
-    record_type: RecordType,
-) -> Result<Asked, Refusal> {
+/// What the words ask for: a name, a type and maybe a class, and the options.
+fn asked_of<E: RandomSource>(env: &E, alloc: Global, given: &Given<'_>) -> Result<Asked, Refusal> {
+    let (name, record_type, class) = match given.plain.as_slice() {
+        [name, record_type] => (*name, *record_type, "IN"),
+        [name, record_type, class] => (*name, *record_type, *class),
+        _ => return Err(given.wrong_count(alloc, &["NAME", "TYPE", "CLASS"])),
+    };
     let dnssec_ok = given.has("--dnssec");
+    let record_type = type_of(alloc, record_type)?;
+    let class = class_of(alloc, class)?;
     Ok(Asked {
         id: id_of(env, alloc, given)?,
         name: Name::from_text(alloc, name, None)?,
         record_type,
+        class,
         has_edns: given.has("--edns") || dnssec_ok || given.has("--option"),
         dnssec_ok,
         options: options_of(alloc, given)?,
     })
+}
+
+/// The record type that a word is.
+fn type_of(alloc: Global, word: &str) -> Result<RecordType, Refusal> {
+    match RecordType::from_text(word) {
+        Some(record_type) => Ok(record_type),
+        None => Err(Misuse::wrong(alloc, "a record type", word)),
+    }
+}
+
+/// The class that a word is.
+fn class_of(alloc: Global, word: &str) -> Result<DNSClass, Refusal> {
+    match DNSClass::from_text(word) {
+        Some(class) => Ok(class),
+        None => Err(Misuse::wrong(alloc, "a class", word)),
+    }
 }
 
 /// The id that is given, or one that cannot be guessed (RFC 5452, section 9.2).

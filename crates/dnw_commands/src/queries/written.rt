@@ -30,6 +30,8 @@ pub(crate) struct Asked {
     pub(crate) name: Name,
     /// The type of the question.
     pub(crate) record_type: RecordType,
+    /// The class of the question.
+    pub(crate) class: DNSClass,
     /// Whether there is an `OPT` record.
     pub(crate) has_edns: bool,
     /// Whether it asks for the records of DNSSEC.
@@ -38,7 +40,7 @@ pub(crate) struct Asked {
     pub(crate) options: Vec<u8>,
 }
 
-/// Returns a query for the records of a type that a name has, in the class IN. It asks for recursion. It fails if the options are none,
+/// Returns a query for the records of a type and a class that a name has. It asks for recursion. It fails if the options are none,
 /// or have no room in a message, or if an allocation fails.
 pub(crate) fn query(alloc: Global, asked: &Asked) -> Result<Vec<u8>, Refusal>
     ensures ok { IfOk result (λ message. IsQueryOf asked.now message.items) }
@@ -81,7 +83,7 @@ fn write_question(
 {
     let room = message.len();
     writer.begin(message, asked.id, ASKING, room)?;
-    let (code, class) = (asked.record_type.code(), DNSClass::IN.code());
+    let (code, class) = (asked.record_type.code(), asked.class.code());
     writer.question(message, asked.name.wire_labels(), code, class)?;
     Ok(())
 }

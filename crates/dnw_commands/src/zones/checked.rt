@@ -1,6 +1,6 @@
 //! What a zone is found to have, as compilers show it.
 
-use crate::base::Refusal;
+use crate::base::{Refusal, Sink};
 use crate::zones::kept::InOrder;
 use dns_names_wire::binary::BinDecodable;
 use dns_names_wire::name::Name;
@@ -11,14 +11,32 @@ use std::alloc::Global;
 /// A line of a finding, after how many records came before the one that it is about, and how many findings were before it.
 type Line = (Option<usize>, usize, String);
 
+/// What a zone is found to have, as lines.
+#[derive(Drop)]
+pub(crate) struct Findings {
+    text: String,
+    /// Whether one of them is an error.
+    has_errors: bool,
+}
+
+impl Findings {
+    /// Shows the lines. If one of them is an error, the zone is rejected.
+    pub(crate) fn put<O: Sink>(&self, out: &mut O) -> Result<(), Refusal> {
+        if self.has_errors {
+            out.reject();
+        }
+        out.put_line(self.text.as_str())
+    }
+}
+
 /// Returns what a zone is found to have, as a line for each finding, in the order in which the records came, and after these how much
-/// it is. If an error is among the findings, the lines are a refusal.
+/// it is.
 pub(crate) fn findings(
     alloc: Global,
     zone: &Name,
     kept: &InOrder,
     files: &[String],
-) -> Result<String, Refusal> {
+) -> Result<Findings, Refusal> {
     let records = records_of(alloc, kept)?;
     let found = check_zone(alloc, zone, records.as_slice())?;
     let checked = Checked {
@@ -26,12 +44,10 @@ pub(crate) fn findings(
         files,
         records: records.as_slice(),
     };
-    let text = checked.text(alloc, found.as_slice())?;
-    if errors_of(found.as_slice()) == 0 {
-        Ok(text)
-    } else {
-        Err(Refusal::Zone(text))
-    }
+    Ok(Findings {
+        text: checked.text(alloc, found.as_slice())?,
+        has_errors: errors_of(found.as_slice()) != 0,
+    })
 }
 
 /// Returns the records in canonical order.

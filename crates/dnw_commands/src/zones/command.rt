@@ -1,15 +1,11 @@
 //! What the words after `dnw zone` and `dnw zone-digest` ask for.
 
-use crate::base::{Given, Known, Misuse, Refusal, Watch, contents};
-use crate::zones::listing::listing;
+use crate::base::{Given, Known, Misuse, Refusal, Sink, Watch, said_of};
+use crate::zones::listing::ZoneFile;
 use crate::zones::shown::{Form, Wanted};
-use dns_names_wire::binary::BinDecodable;
-use dns_names_wire::data_text::parse_entry;
 use dns_names_wire::dnssec::zone_digest;
 use dns_names_wire::field_text::{parse_u8, parse_u32};
 use dns_names_wire::name::Name;
-use dns_names_wire::rdata::Record;
-use dns_names_wire::record::RecordRef;
 use std::alloc::Global;
 use std::io::Read;
 use std::rt::Files;
@@ -18,7 +14,7 @@ use std::rt::Files;
 const MAX_TTL: u32 = 0x7fff_ffff;
 
 /// The options of `dnw zone`.
-const OPTIONS: [Known; 7] = [
+const OPTIONS: [Known; 8] = [
     Known::Valued("--origin", "NAME"),
     Known::Valued("--ttl", "SECONDS"),
     Known::Valued("--generate-limit", "NUMBER"),
@@ -26,27 +22,49 @@ const OPTIONS: [Known; 7] = [
     Known::Flag("--relative"),
     Known::Flag("--wire"),
     Known::Flag("--check"),
+    Known::Repeated("--include", "DIR"),
 ];
 
-/// Returns the records of the zone file that the words name, or of standard input if it is `-`, as the options ask for. Names without
-/// a dot at their end are below the origin. If an entry is wrong, the lines of all errors are a refusal.
-pub(crate) fn zone<E: Files, I: Read, P: Watch>(
+/// The options of `dnw zone-digest`.
+const DIGEST_OPTIONS: [Known; 1] = [Known::Repeated("--include", "DIR")];
+
+/// What of a zone a digest is computed of.
+const WANTED_OF_DIGEST: Wanted = Wanted {
+    form: Form::Nothing,
+    is_sorted: false,
+    ttl: None,
+    generate_limit: 0,
+};
+
+/// Shows the records of the zone files that the words name, or of standard input for `-`, as the options ask for: each as soon as it is
+/// there, or all in canonical order. Names without a dot at their end are below the origin. Each error is said, and after the first one
+/// of a file no more of its records are shown.
+pub(crate) fn zone<E: Files + AllocGlobal, I: Read, O: Sink, P: Watch>(
     env: &E,
     alloc: Global,
     words: &[String],
     input: &mut I,
+    out: &mut O,
     watch: &mut P,
-) -> Result<String, Refusal> {
+) -> Result<(), Refusal> {
     let given = Given::of(alloc, words, &OPTIONS)?;
     let wanted = wanted_of(alloc, &given)?;
-    let [file] = given.plain.as_slice() else {
-        return Err(given.wrong_count(alloc, &["FILE or -"]));
-    };
+    let files = given.some("FILE or -")?;
     let Some(origin) = given.value("--origin") else {
         return Err(Misuse::Missing("--origin NAME").into());
     };
-    let zone = contents(env, alloc, file, input)?;
-    listing(env, alloc, file, origin, wanted, zone, watch)
+    let folders = given.values(alloc, "--include")?;
+    for file in files {
+        let zone = ZoneFile {
+            file: *file,
+            origin,
+            folders: folders.as_slice(),
+            wanted,
+        };
+        let shown = zone.show(env, alloc, input, out, watch);
+        said_of(alloc, file, 1 < files.len(), shown, out)?;
+    }
+    Ok(())
 }
 
 /// What the options ask for: of `--relative`, `--wire` and `--check` only one is there.
@@ -87,53 +105,35 @@ fn generate_limit_of(alloc: Global, given: &Given<'_>) -> Result<u32, Refusal> {
     }
 }
 
-/// Returns the digest that a ZONEMD record of a zone has (RFC 8976), by the hash algorithm, in hexadecimal digits. The words are the
-/// apex, the algorithm and the zone file, whose names without a dot at their end are below the apex.
-pub(crate) fn digest<E: Files, I: Read, P: Watch>(
+/// Shows the digest that a ZONEMD record of a zone has (RFC 8976), by the hash algorithm, in hexadecimal digits. The words are the apex,
+/// the algorithm and the zone file, whose names without a dot at their end are below the apex.
+pub(crate) fn digest<E: Files + AllocGlobal, I: Read, O: Sink, P: Watch>(
     env: &E,
     alloc: Global,
     words: &[String],
     input: &mut I,
+    out: &mut O,
     watch: &mut P,
-) -> Result<String, Refusal> {
-    let given = Given::of(alloc, words, &[])?;
+) -> Result<(), Refusal> {
+    let given = Given::of(alloc, words, &DIGEST_OPTIONS)?;
     let [apex, algorithm, file] = given.plain.as_slice() else {
         return Err(given.wrong_count(alloc, &["APEX", "ALGORITHM", "FILE or -"]));
     };
     let Ok(algorithm) = parse_u8(algorithm) else {
         return Err(Misuse::wrong(alloc, "a number of at most 255", algorithm));
     };
-    let zone = contents(env, alloc, file, input)?;
-    let wanted = Wanted {
-        form: Form::Lines,
-        is_sorted: false,
-        ttl: None,
-        generate_limit: 0,
+    let folders = given.values(alloc, "--include")?;
+    let zone = ZoneFile {
+        file: *file,
+        origin: *apex,
+        folders: folders.as_slice(),
+        wanted: WANTED_OF_DIGEST,
     };
-    let lines = listing(env, alloc, file, apex, wanted, zone, watch)?;
-    digest_of(alloc, apex, lines.as_str(), algorithm)
-}
-
-/// Returns the digest of a zone that has its records as lines.
-fn digest_of(alloc: Global, apex: &str, lines: &str, algorithm: u8) -> Result<String, Refusal> {
+    let Some(kept) = zone.kept(env, alloc, input, out, watch)? else {
+        return Ok(());
+    };
     let apex = Name::from_text(alloc, apex, None)?;
-    let records = records_of(alloc, lines)?;
-    let digest = zone_digest(alloc, &apex, records.as_slice(), algorithm)?;
-    Ok(hex::encode(alloc, digest.as_slice())?)
-}
-
-/// Returns the records of lines.
-fn records_of(alloc: Global, lines: &str) -> Result<Vec<Record>, Refusal> {
-    let mut records = Vec::new(alloc);
-    for line in lines.lines() {
-        records.push(record_of(alloc, line)?)?;
-    }
-    Ok(records)
-}
-
-/// Returns the record of a line.
-fn record_of(alloc: Global, line: &str) -> Result<Record, Refusal> {
-    let octets = parse_entry(alloc, line.as_bytes(), None)?;
-    let record = RecordRef::from_bytes(alloc, octets.as_slice())?;
-    Ok(Record::from_ref(alloc, &record)?)
+    let digest = zone_digest(alloc, &apex, kept.records(alloc)?.as_slice(), algorithm)?;
+    watch.ends();
+    out.put_line(hex::encode(alloc, digest.as_slice())?.as_str())
 }

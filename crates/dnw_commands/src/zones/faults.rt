@@ -1,6 +1,6 @@
 //! Errors of texts, as compilers show them.
 
-use crate::base::Refusal;
+use crate::base::{Refusal, push_octet};
 use dns_names_wire::zone::{TextPlace, place_of};
 
 /// How many octets of a line are shown on each side of an error, at most.
@@ -15,10 +15,13 @@ pub(crate) struct Fault<'a> {
     pub(crate) text: &'a [u8],
     /// The place of the entry in the file.
     pub(crate) start: TextPlace,
+    /// Whether lines of the file may be shown.
+    pub(crate) shows_lines: bool,
 }
 
 impl Fault<'_> {
-    /// Appends the file, the line and the column of an offset of the entry, what is wrong there, and that line with a mark below it.
+    /// Appends the file, the line and the column of an offset of the entry, what is wrong there, and, if it may be shown, that line with
+    /// a mark below it.
     pub(crate) fn put(
         &self,
         offset: usize,
@@ -26,6 +29,9 @@ impl Fault<'_> {
         errors: &mut String,
     ) -> Result<(), Refusal> {
         self.put_reason(offset, reason, errors)?;
+        if !self.shows_lines {
+            return Ok(());
+        }
         let (before, after) = self.text.split_at(offset.min(self.text.len()));
         let width = put_octets(end_of_line(before), errors)?;
         put_octets(begin_of_line(after), errors)?;
@@ -100,14 +106,8 @@ fn put_octets(octets: &[u8], errors: &mut String) -> Result<usize, Refusal> {
 
 /// Appends an octet, a tab as a space and one that is not printable ASCII as `\DDD`, and returns how many characters that are.
 fn put_octet(octet: u8, errors: &mut String) -> Result<usize, Refusal> {
-    if octet == b'\t' {
-        errors.push(' ')?;
-        Ok(1)
-    } else if b' ' <= octet && octet <= b'~' {
-        errors.push(char::from(octet))?;
-        Ok(1)
-    } else {
-        write!(errors, "\\{octet:03}")?;
-        Ok(4)
-    }
+    let shown = if octet == b'\t' { b' ' } else { octet };
+    let before = errors.len();
+    push_octet(shown, errors)?;
+    Ok(errors.len().saturating_sub(before))
 }

@@ -4,6 +4,7 @@ use crate::base::Refusal;
 use crate::zones::sorting::order_of;
 use dns_names_wire::binary::BinDecodable;
 use dns_names_wire::canonical::record_key;
+use dns_names_wire::rdata::Record;
 use dns_names_wire::record::RecordRef;
 use std::alloc::Global;
 
@@ -78,6 +79,16 @@ impl Kept {
         self.wires.add(wire)?;
         self.places.push(place)?;
         Ok(())
+    }
+
+    /// Returns the records, as they came.
+    pub(crate) fn records(&self, alloc: Global) -> Result<Vec<Record>, Refusal> {
+        let mut records = Vec::with_capacity(alloc, self.len())?;
+        for number in 0..self.len() {
+            let record = RecordRef::from_bytes(alloc, self.wires.get(number))?;
+            records.push(Record::from_ref(alloc, &record)?)?;
+        }
+        Ok(records)
     }
 
     /// Returns how many records there are.

@@ -1,19 +1,22 @@
 //! What is read of zone files: their records, and the lines of their errors.
 
-use crate::base::{Refusal, Watch};
+use crate::base::{Refusal, Sink, Watch};
 use crate::zones::faults::Fault;
-use crate::zones::kept::Place;
+use crate::zones::kept::{Kept, Place};
 use crate::zones::shown::Listed;
 use dns_names_wire::ProtoError;
 use dns_names_wire::data_text::{DataTextError, RecordLineError};
 use dns_names_wire::zone::{Context, ZoneError, ZoneRecord};
 use std::alloc::Global;
 
-/// The records, and the lines of the errors, so far.
+/// The records so far, and the lines of the errors of the last entry.
 #[derive(Drop)]
 pub(crate) struct Lines {
     records: Listed,
+    /// The lines of errors that are not said yet.
     pub(crate) errors: String,
+    /// Whether there was an error, after which no record is shown.
+    has_errors: bool,
     /// The last line with comments or parentheses, without them.
     pub(crate) line: Vec<u8>,
     /// The wire form of the last record.
@@ -26,19 +29,29 @@ impl Lines {
         Lines {
             records,
             errors: String::new(alloc),
+            has_errors: false,
             line: Vec::new(alloc),
             wire: Vec::new(alloc),
         }
     }
 
-    /// Adds the record of an entry that begins at a place.
-    pub(crate) fn add_record(
+    /// Returns whether records are kept until all are there.
+    pub(crate) fn are_kept(&self) -> bool {
+        self.records.are_kept()
+    }
+
+    /// Adds the record of an entry that begins at a place, if there was no error.
+    pub(crate) fn add_record<O: Sink>(
         &mut self,
         alloc: Global,
         context: &Context,
         found: &ZoneRecord,
         place: Place,
+        out: &mut O,
     ) -> Result<(), Refusal> {
+        if self.has_errors {
+            return Ok(());
+        }
         let Some(owner) = &context.owner else {
             return Ok(());
         };
@@ -46,7 +59,7 @@ impl Lines {
             return Ok(());
         };
         put_wire(owner.as_bytes(), found, len, &mut self.wire)?;
-        self.records.add(alloc, self.wire.as_slice(), place)
+        self.records.add(alloc, self.wire.as_slice(), place, out)
     }
 
     /// Adds why an entry is none. It fails if memory ran out while it was read.
@@ -60,17 +73,43 @@ impl Lines {
         fault.put(offset_of(error), reason.as_str(), &mut self.errors)
     }
 
-    /// Returns the text of all records of the files, or the lines of all errors as a refusal.
-    pub(crate) fn finish<P: Watch>(
+    /// Says the errors of the last entry, if it has any.
+    pub(crate) fn say_errors<O: Sink, P: Watch>(
+        &mut self,
+        out: &mut O,
+        watch: &mut P,
+    ) -> Result<(), Refusal> {
+        if self.errors.is_empty() {
+            return Ok(());
+        }
+        self.has_errors = true;
+        watch.ends();
+        out.reject();
+        out.say(self.errors.as_str())?;
+        self.errors.clear();
+        Ok(())
+    }
+
+    /// Shows the records that were kept, or what they are found to have, if there was no error.
+    pub(crate) fn finish<O: Sink, P: Watch>(
         self,
         alloc: Global,
         files: &[String],
+        out: &mut O,
         watch: &mut P,
-    ) -> Result<String, Refusal> {
-        if self.errors.is_empty() {
-            self.records.finish(alloc, files, watch)
+    ) -> Result<(), Refusal> {
+        if self.has_errors {
+            return Ok(());
+        }
+        self.records.finish(alloc, files, out, watch)
+    }
+
+    /// Returns the records that were kept, if there was no error.
+    pub(crate) fn into_kept(self) -> Option<Kept> {
+        if self.has_errors {
+            None
         } else {
-            Err(Refusal::Zone(self.errors))
+            Some(self.records.into_kept())
         }
     }
 }

@@ -1,8 +1,9 @@
 //! The records of a zone, as they are shown.
 
-use crate::base::{Refusal, Watch};
+use crate::base::{Refusal, Sink, Watch};
 use crate::zones::checked::findings;
 use crate::zones::kept::{InOrder, Kept, Place};
+use crate::zones::source::Generating;
 use dns_names_wire::binary::BinDecodable;
 use dns_names_wire::data_text::record_text;
 use dns_names_wire::record::RecordRef;
@@ -20,6 +21,8 @@ pub(crate) enum Form {
     Wire,
     /// Not at all, but what they are found to have.
     Findings,
+    /// Not at all.
+    Nothing,
 }
 
 /// What of a zone is asked for.
@@ -35,11 +38,21 @@ pub(crate) struct Wanted {
     pub(crate) generate_limit: u32,
 }
 
+impl Wanted {
+    /// How `$GENERATE` is read, before the first one.
+    pub(crate) fn generating(&self) -> Generating {
+        Generating {
+            limit: self.generate_limit,
+            next: None,
+        }
+    }
+}
+
 /// The records of a zone, shown, or kept until all are there.
 #[derive(Drop)]
 pub(crate) struct Listed {
     printed: Printed,
-    is_sorted: bool,
+    are_kept: bool,
     kept: Kept,
 }
 
@@ -50,93 +63,110 @@ impl Listed {
             printed: Printed {
                 form: wanted.form,
                 context,
-                text: String::new(alloc),
+                has_begun: false,
             },
-            is_sorted: wanted.is_sorted || wanted.form == Form::Findings,
+            are_kept: wanted.is_sorted || matches!(wanted.form, Form::Findings | Form::Nothing),
             kept: Kept::new(alloc),
         }
     }
 
-    /// Adds the record that has this wire form, and is at this place.
-    pub(crate) fn add(&mut self, alloc: Global, wire: &[u8], place: Place) -> Result<(), Refusal> {
-        if self.is_sorted {
+    /// Returns whether records are kept until all are there.
+    pub(crate) fn are_kept(&self) -> bool {
+        self.are_kept
+    }
+
+    /// Shows or keeps the record that has this wire form, and is at this place.
+    pub(crate) fn add<O: Sink>(
+        &mut self,
+        alloc: Global,
+        wire: &[u8],
+        place: Place,
+        out: &mut O,
+    ) -> Result<(), Refusal> {
+        if self.are_kept {
             self.kept.add(alloc, wire, place)
         } else {
-            self.printed.show(alloc, wire)
+            self.printed.show(alloc, wire, out)
         }
     }
 
-    /// Returns the text of all records of the files, or of what they are found to have, without the end of its last line.
-    pub(crate) fn finish<P: Watch>(
-        self,
+    /// Returns the records that were kept.
+    pub(crate) fn into_kept(self) -> Kept {
+        self.kept
+    }
+
+    /// Shows the records that were kept, in canonical order, or what they are found to have.
+    pub(crate) fn finish<O: Sink, P: Watch>(
+        mut self,
         alloc: Global,
         files: &[String],
+        out: &mut O,
         watch: &mut P,
-    ) -> Result<String, Refusal> {
+    ) -> Result<(), Refusal> {
         if self.kept.len() > 0 {
             watch.begins("sorting", self.kept.len());
         }
         let records = self.kept.in_order(alloc)?;
         if self.printed.form == Form::Findings {
             watch.begins("checking", records.order().len());
-            findings(alloc, &self.printed.context.origin, &records, files)
-        } else {
-            self.printed.finish(alloc, &records)
+            let found = findings(alloc, &self.printed.context.origin, &records, files)?;
+            watch.ends();
+            return found.put(out);
         }
+        watch.ends();
+        self.printed.show_all(alloc, &records, out)
     }
 }
 
-/// The text of records.
+/// How records are printed.
 #[derive(Drop)]
 struct Printed {
     form: Form,
-    /// What a reader of a zone file knows after the text.
+    /// What a reader of a zone file knows after what is printed.
     context: Context,
-    text: String,
+    /// Whether a record is printed.
+    has_begun: bool,
 }
 
 impl Printed {
-    /// Returns the text, with these records after it, without the end of its last line.
-    fn finish(mut self, alloc: Global, records: &InOrder) -> Result<String, Refusal> {
-        self.show_all(alloc, records)?;
-        self.text.pop();
-        Ok(self.text)
-    }
-
-    /// Appends records.
-    fn show_all(&mut self, alloc: Global, records: &InOrder) -> Result<(), Refusal> {
+    /// Shows records.
+    fn show_all<O: Sink>(
+        &mut self,
+        alloc: Global,
+        records: &InOrder,
+        out: &mut O,
+    ) -> Result<(), Refusal> {
         for number in records.order() {
-            self.show(alloc, records.wire(*number))?;
+            self.show(alloc, records.wire(*number), out)?;
         }
         Ok(())
     }
 
-    /// Appends the record that has this wire form.
-    fn show(&mut self, alloc: Global, wire: &[u8]) -> Result<(), Refusal> {
+    /// Shows the record that has this wire form.
+    fn show<O: Sink>(&mut self, alloc: Global, wire: &[u8], out: &mut O) -> Result<(), Refusal> {
         let record = RecordRef::from_bytes(alloc, wire)?;
         match self.form {
-            Form::Lines => self.show_line(record_text(alloc, &record)?.as_str()),
-            Form::Relative => self.show_relative(alloc, &record),
-            Form::Wire => self.show_line(hex::encode(alloc, wire)?.as_str()),
-            Form::Findings => Ok(()),
+            Form::Lines => out.put_line(record_text(alloc, &record)?.as_str()),
+            Form::Relative => self.show_relative(alloc, &record, out),
+            Form::Wire => out.put_line(hex::encode(alloc, wire)?.as_str()),
+            Form::Findings | Form::Nothing => Ok(()),
         }
     }
 
-    /// Appends a line.
-    fn show_line(&mut self, line: &str) -> Result<(), Refusal> {
-        self.text.push_str(line)?;
-        self.text.push('\n')?;
-        Ok(())
-    }
-
-    /// Appends a record of a zone file, after what is before the first.
-    fn show_relative(&mut self, alloc: Global, record: &RecordRef<'_>) -> Result<(), Refusal> {
+    /// Shows a record of a zone file, after what is before the first.
+    fn show_relative<O: Sink>(
+        &mut self,
+        alloc: Global,
+        record: &RecordRef<'_>,
+        out: &mut O,
+    ) -> Result<(), Refusal> {
         let mut lines = Vec::new(alloc);
-        if self.text.is_empty() {
+        if !self.has_begun {
+            self.has_begun = true;
             self.begin(alloc, record.ttl(), &mut lines)?;
         }
         append_short_record(alloc, &mut self.context, record, &mut lines)?;
-        self.show_octets(lines.as_slice())
+        out.put(lines.as_slice())
     }
 
     /// Appends what is before the first record of a zone file: the origin, and the time to live of that record.
@@ -144,14 +174,6 @@ impl Printed {
         let origin = self.context.origin.copied();
         append_origin(alloc, &mut self.context, &origin, lines)?;
         append_ttl(alloc, &mut self.context, ttl, lines)?;
-        Ok(())
-    }
-
-    /// Appends octets of ASCII.
-    fn show_octets(&mut self, octets: &[u8]) -> Result<(), Refusal> {
-        for octet in octets {
-            self.text.push(char::from(*octet))?;
-        }
         Ok(())
     }
 }
