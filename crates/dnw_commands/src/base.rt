@@ -17,7 +17,7 @@ mod window;
 /// The words after a command: its options, in any order, and the others.
 mod words;
 
-pub(crate) use given::{Octets, all_of, contents, octets, open, unread, word_octets};
+pub(crate) use given::{Octets, all_of, contents, octets_of, open, unread, word_octets};
 pub(crate) use misuse::Misuse;
 pub(crate) use output::{Output, Sink, said_of};
 pub(crate) use plain::{plain, push_octet};

@@ -94,7 +94,7 @@ pub(crate) fn word_octets(alloc: Global, word: &str) -> Result<Vec<u8>, Refusal>
     ensures err { IfErr result (λ e. IsMemory e
         ⊎ (IsErr (decode_of word.now) × SaysWrong (codes "hexadecimal digits, two for each octet") word.now e)) }
 {
-    match octets(alloc, word) {
+    match octets_of(alloc, word) {
         Err(Refusal::Digits) => Err(Misuse::wrong(
             alloc,
             "hexadecimal digits, two for each octet",
@@ -106,7 +106,7 @@ pub(crate) fn word_octets(alloc: Global, word: &str) -> Result<Vec<u8>, Refusal>
 
 /// Returns the octets that hexadecimal digits of either case stand for, two each. It fails with `Digits` if the text is not of such
 /// digits, and else only if an allocation fails.
-pub(crate) fn octets(alloc: Global, text: &str) -> Result<Vec<u8>, Refusal>
+pub(crate) fn octets_of(alloc: Global, text: &str) -> Result<Vec<u8>, Refusal>
     ensures ok { IfOk result (λ octets. decode_of text.now ≡ Ok octets.items) }
     ensures err { IfErr result (λ e. IsMemory e ⊎ ((e ≡ Digits) × IsErr (decode_of text.now))) }
 {

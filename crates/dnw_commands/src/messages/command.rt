@@ -1,6 +1,6 @@
 //! What the words after `dnw message` ask for.
 
-use crate::base::{Given, Known, Octets, Refusal, Sink, Window, all_of, octets, open, said_of};
+use crate::base::{Given, Known, Octets, Refusal, Sink, Window, all_of, octets_of, open, said_of};
 use crate::messages::page::Page;
 use dns_names_wire::message::MessageRef;
 use dns_names_wire::message_text::{message_json, message_text};
@@ -123,7 +123,7 @@ fn opened<'a, E: Files, I: Read>(
 /// it is the octets.
 fn message_octets(alloc: Global, given: Vec<u8>) -> Result<Vec<u8>, Refusal> {
     match digits_of(alloc, given.as_slice())? {
-        Some(digits) => octets(alloc, digits.as_str()),
+        Some(digits) => octets_of(alloc, digits.as_str()),
         None => Ok(given),
     }
 }

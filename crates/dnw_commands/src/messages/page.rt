@@ -1,6 +1,6 @@
 //! Many messages, one after the other.
 
-use crate::base::{Refusal, Sink, Window, line_len, octets, unread};
+use crate::base::{Refusal, Sink, Window, line_len, octets_of, unread};
 use crate::messages::command::{Layout, MAX_TEXT, shown};
 use std::alloc::Global;
 use std::io::{ErrorKind, Read};
@@ -77,7 +77,7 @@ impl Page {
         if digits.is_empty() {
             return Ok(());
         }
-        let message = octets(alloc, digits.as_str());
+        let message = octets_of(alloc, digits.as_str());
         self.add_octets(alloc, message, out)
     }
 

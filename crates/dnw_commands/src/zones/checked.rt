@@ -31,7 +31,7 @@ impl Findings {
 
 /// Returns what a zone is found to have, as a line for each finding, in the order in which the records came, and after these how much
 /// it is.
-pub(crate) fn findings(
+pub(crate) fn findings_of(
     alloc: Global,
     zone: &Name,
     kept: &InOrder,

@@ -1,7 +1,7 @@
 //! The records of a zone, as they are shown.
 
 use crate::base::{Refusal, Sink, Watch};
-use crate::zones::checked::findings;
+use crate::zones::checked::findings_of;
 use crate::zones::kept::{InOrder, Kept, Place};
 use crate::zones::source::Generating;
 use dns_names_wire::binary::BinDecodable;
@@ -109,7 +109,7 @@ impl Listed {
         let records = self.kept.in_order(alloc)?;
         if self.printed.form == Form::Findings {
             watch.begins("checking", records.order().len());
-            let found = findings(alloc, &self.printed.context.origin, &records, files)?;
+            let found = findings_of(alloc, &self.printed.context.origin, &records, files)?;
             watch.ends();
             return found.put(out);
         }
