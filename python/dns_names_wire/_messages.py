@@ -309,7 +309,7 @@ class Message:
         """
         number = int.from_bytes(os.urandom(2), "big") if id is None else _checks.number("id", id, _MOST)
         question, flag = Question(name, record_type, record_class), bool(recursion_desired)
-        wire, *codes = question_parts("name", question)
+        wire, codes = question.name.wire, (question.question_type, question.question_class)
         room = take_room()
         check(_writer_query(room.octets_at, ROOM_SIZE, _MOST, number, flag, wire, len(wire), *codes, 0, room.writer_at))
         head: Any = room.octets[: room.writer.len]
@@ -566,8 +566,12 @@ class Message:
 
 def _own_records(sections: Iterable[Iterable[Record]]) -> Tuple[Tuple[Record, ...], ...]:
     """Returns the records of arguments, each of which has to be one."""
-    found = zip(_ARGUMENTS, sections)
-    return tuple([tuple([record if type(record) is Record else own_record(what, record) for record in its]) for what, its in found])
+    found = tuple([tuple(records) for records in sections])
+    for what, records in zip(_ARGUMENTS, found):
+        for record in records:
+            if type(record) is not Record:
+                own_record(what, record)
+    return found
 
 
 def question_parts(what: str, question: object) -> Tuple[bytes, int, int]:
@@ -584,13 +588,13 @@ def _question_item(wire: bytes, question_type: int, question_class: int) -> Tupl
 
 def _items_of(made: _Made) -> bytes:
     """Returns the list of the items of a message."""
-    parts: List[bytes] = [made.asked]
+    parts = [made.asked]
+    add = parts.append
     for octet, records in zip((ANSWER_ITEM, _AUTHORITY, _REQUIRED, _ADDITIONAL), made.records):
         for record in records:
-            parts += octet, record._message if record._is_whole else record.to_wire()
-    if made.opt:
-        parts += _ADDITIONAL, made.opt
-    return b"".join(parts)
+            add(octet)
+            add(record._message if record._is_whole else record.to_wire())
+    return b"".join([*parts, _ADDITIONAL, made.opt]) if made.opt else b"".join(parts)
 
 
 def _questions_of(made: _Made) -> Tuple[Question, ...]:
