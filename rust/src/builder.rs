@@ -1,29 +1,17 @@
 //! Messages that are built section by section.
-use crate::codes::{Class, RecordType};
-use crate::error::{Error, ErrorKind, Section};
-use crate::ffi::{self, HEADER_SIZE};
-use crate::header::{Header, ResponseCode};
-use crate::message::{Edns, Message};
-use crate::name_ref::NameRef;
+use crate::ffi::{self, HEADER_SIZE, LIST_ADDITIONAL, LIST_ANSWER, LIST_AUTHORITY, LIST_QUESTION};
 use crate::octets::{Room, Sink};
-use crate::rdata::RData;
-use crate::record_buf::{put_record, RecordBuf};
-use crate::record_set::RecordSet;
-use crate::writer::Need;
+use crate::record_buf::put_record;
+use crate::{
+    Class, Edns, Error, ErrorKind, Header, Message, NameRef, Need, RData, RecordBuf, RecordSet, RecordType,
+    ResponseCode, Section,
+};
 use alloc::vec::Vec;
 use core::borrow::Borrow;
 use core::fmt;
 
-/// The sections, in the order in which they are written.
-const QUESTIONS: u8 = 0;
-pub(crate) const ANSWERS: u8 = 1;
-const AUTHORITIES: u8 = 2;
-const ADDITIONALS: u8 = 3;
+/// The sections, in the order in which they are written: the octets of their items in the list of `dnw_message_write`.
 const SECTIONS: usize = 4;
-
-/// What is joined to the section of an item in the list of `dnw_message_write`: it is required or optional.
-const REQUIRED: u8 = 0x20;
-const OPTIONAL: u8 = 0x80;
 
 /// The initial capacity of a section, in octets.
 const USUAL_SIZE: usize = 256;
@@ -70,20 +58,12 @@ pub struct MessageBuilder {
     request: Option<(Vec<u8>, ffi::Edns)>,
     /// The items of each section, of which `dnw_message_write` takes a list, but for the OPT record.
     sections: [Vec<u8>; SECTIONS],
-    edns: Option<Opt>,
+    /// The EDNS fields, and the options that they have.
+    edns: Option<(Edns<'static>, Vec<u8>)>,
     /// The message is padded to a multiple of so many octets, if they are not 0.
     block: u16,
     /// Why there is no such reply.
     failure: Option<Error>,
-}
-
-/// The EDNS fields.
-#[derive(Clone)]
-struct Opt {
-    max_payload: u16,
-    version: u8,
-    dnssec_ok: bool,
-    options: Vec<u8>,
 }
 
 impl MessageBuilder {
@@ -112,9 +92,10 @@ impl MessageBuilder {
     /// ```
     pub fn query<'n>(id: u16, name: impl Into<NameRef<'n>>, record_type: RecordType) -> Self {
         let mut query = MessageBuilder::new(Header::default());
-        let (mut room, mut writer) = ([0; REPLY_SIZE], ffi::Writer::none());
-        let form = (record_type.code(), Class::IN.code());
-        let begun = name.into().with_form(|name| writer.query(&mut room, REPLY_SIZE, (id, true), name, form, 0));
+        let (mut room, mut writer) = ([0; REPLY_SIZE], ffi::Writer::ZERO);
+        let begun = name.into().with_form(|name| {
+            ffi::writer_query(&mut room, REPLY_SIZE, id, true, name, record_type, Class::IN, 0, &mut writer)
+        });
         query.failure = begun.and_then(|()| query.begin_as(&room[..writer.len])).err();
         query
     }
@@ -141,8 +122,8 @@ impl MessageBuilder {
     pub fn reply_to(request: &Message<'_>) -> Self {
         let mut reply = MessageBuilder::new(Header::default());
         reply.edns(&Edns::new(USUAL_PAYLOAD));
-        let (mut room, mut writer) = ([0; REPLY_SIZE], ffi::Writer::none());
-        let begun = writer.reply(&mut room, REPLY_SIZE, request.octets(), (0, 0)).and_then(|asked| {
+        let (mut room, mut writer) = ([0; REPLY_SIZE], ffi::Writer::ZERO);
+        let begun = ffi::writer_reply(&mut room, REPLY_SIZE, request.octets(), 0, 0, &mut writer).and_then(|asked| {
             reply.begin_as(&room[..writer.len])?;
             reply.header.response_code = asked.response_code.into();
             reply.request = Some((request.octets().to_vec(), asked));
@@ -158,8 +139,9 @@ impl MessageBuilder {
         head[..4].copy_from_slice(&begun[..4]);
         self.header = Message::read(&head)?.header();
         if begun.len() > HEADER_SIZE {
-            self.items(QUESTIONS).push(QUESTIONS);
-            self.items(QUESTIONS).extend_from_slice(&begun[HEADER_SIZE..]);
+            let items = self.items(LIST_QUESTION);
+            items.push(LIST_QUESTION);
+            items.extend_from_slice(&begun[HEADER_SIZE..]);
         }
         Ok(())
     }
@@ -245,7 +227,7 @@ impl MessageBuilder {
     /// # Ok::<(), dns_names_wire::Error>(())
     /// ```
     pub fn edns(&mut self, edns: &Edns<'_>) -> &mut Self {
-        self.edns = Some(Opt::of(edns));
+        self.edns = Some((Edns { options: &[], ..*edns }, edns.options.to_vec()));
         self
     }
 
@@ -275,8 +257,8 @@ impl MessageBuilder {
     /// # Ok::<(), dns_names_wire::Error>(())
     /// ```
     pub fn question<'n>(&mut self, name: impl Into<NameRef<'n>>, record_type: RecordType, class: Class) -> &mut Self {
-        let items = self.items(QUESTIONS);
-        items.push(QUESTIONS);
+        let items = self.items(LIST_QUESTION);
+        items.push(LIST_QUESTION);
         let put = name.into().put(items);
         items.extend_from_slice(&record_type.code().to_be_bytes());
         items.extend_from_slice(&class.code().to_be_bytes());
@@ -309,7 +291,7 @@ impl MessageBuilder {
         ttl: u32,
         data: impl Into<RData<'d>>,
     ) -> Result<&mut Self, Error> {
-        self.data(ANSWERS, name.into(), ttl, &data.into())
+        self.data(LIST_ANSWER, name.into(), ttl, &data.into())
     }
 
     /// Adds a record of class IN to the Authority section.
@@ -333,7 +315,7 @@ impl MessageBuilder {
         ttl: u32,
         data: impl Into<RData<'d>>,
     ) -> Result<&mut Self, Error> {
-        self.data(AUTHORITIES, name.into(), ttl, &data.into())
+        self.data(LIST_AUTHORITY, name.into(), ttl, &data.into())
     }
 
     /// Adds a record of class IN to the Additional section.
@@ -356,7 +338,7 @@ impl MessageBuilder {
         ttl: u32,
         data: impl Into<RData<'d>>,
     ) -> Result<&mut Self, Error> {
-        self.data(ADDITIONALS, name.into(), ttl, &data.into())
+        self.data(LIST_ADDITIONAL, name.into(), ttl, &data.into())
     }
 
     /// Adds records to the Answer section.
@@ -370,7 +352,7 @@ impl MessageBuilder {
     /// # Ok::<(), dns_names_wire::Error>(())
     /// ```
     pub fn answers<R: Borrow<RecordBuf>>(&mut self, records: impl IntoIterator<Item = R>) -> &mut Self {
-        self.all(ANSWERS, ANSWERS, records)
+        self.all(LIST_ANSWER, LIST_ANSWER, records)
     }
 
     /// Adds records to the Authority section.
@@ -384,7 +366,7 @@ impl MessageBuilder {
     /// # Ok::<(), dns_names_wire::Error>(())
     /// ```
     pub fn authorities<R: Borrow<RecordBuf>>(&mut self, records: impl IntoIterator<Item = R>) -> &mut Self {
-        self.all(AUTHORITIES, AUTHORITIES, records)
+        self.all(LIST_AUTHORITY, LIST_AUTHORITY, records)
     }
 
     /// Adds records to the Additional section. A signature, TSIG (RFC 8945, section 5.1) or SIG(0), becomes the last record of
@@ -401,7 +383,7 @@ impl MessageBuilder {
     /// # Ok::<(), dns_names_wire::Error>(())
     /// ```
     pub fn additionals<R: Borrow<RecordBuf>>(&mut self, records: impl IntoIterator<Item = R>) -> &mut Self {
-        self.all(ADDITIONALS, ADDITIONALS, records)
+        self.all(LIST_ADDITIONAL, LIST_ADDITIONAL, records)
     }
 
     /// Adds records to the Answer, Authority or Additional section, and says whether the message is truncated without
@@ -426,15 +408,15 @@ impl MessageBuilder {
         records: impl IntoIterator<Item = R>,
     ) -> &mut Self {
         let section = match section {
-            Section::Answers => ANSWERS,
-            Section::Authorities => AUTHORITIES,
-            Section::Additionals => ADDITIONALS,
+            Section::Answers => LIST_ANSWER,
+            Section::Authorities => LIST_AUTHORITY,
+            Section::Additionals => LIST_ADDITIONAL,
             _ => {
                 self.failure = Some(ErrorKind::BadItem.into());
                 return self;
             }
         };
-        let need = if need == Need::Optional { OPTIONAL } else { REQUIRED };
+        let need = if need == Need::Optional { ffi::LIST_OPTIONAL } else { ffi::LIST_REQUIRED };
         self.all(section, section | need, records)
     }
 
@@ -513,12 +495,22 @@ impl MessageBuilder {
         let asked = self.asked(flags)?;
         let mut list = Room::new();
         self.sections.iter().for_each(|items| list.extend_from_slice(items));
-        if let Some(edns) = &self.edns {
-            edns.put(asked.as_ref(), &mut list)?;
+        if let Some((edns, options)) = &self.edns {
+            put_edns(&Edns { options, ..*edns }, asked.as_ref(), &mut list)?;
         }
         let code = asked.as_ref().map_or(self.header.response_code.into(), |asked| asked.response_code);
-        let head = (self.header.id, flags, code);
-        ffi::write_list(list.as_slice(), max_size, head, (asked.is_some(), self.block), message)
+        let (items, id, is_reply, block) = (list.as_slice(), self.header.id, asked.is_some(), self.block);
+        // An item takes no more octets in a message than in the list, but for padding.
+        let (most, max_size) = (HEADER_SIZE + items.len(), usize::from(max_size));
+        let room = HEADER_SIZE.max(if block == 0 { most.min(max_size) } else { max_size });
+        let mut truncated = false;
+        message.clear();
+        ffi::append(message, room, |room| {
+            let written = ffi::message_write(items, max_size, id, flags, code, is_reply, block, room)?;
+            truncated = written.truncated;
+            Ok(written.len)
+        })?;
+        Ok(truncated)
     }
 
     /// Returns what a reply with the response code of the header needs, if this is a reply.
@@ -526,9 +518,10 @@ impl MessageBuilder {
         let code = self.header.response_code.into();
         match &self.request {
             Some((request, asked)) if asked.response_code != code => {
-                ffi::Writer::none().reply(&mut [0; REPLY_SIZE], REPLY_SIZE, request, (flags, code)).map(Some)
+                let (mut room, mut writer) = ([0; REPLY_SIZE], ffi::Writer::ZERO);
+                ffi::writer_reply(&mut room, REPLY_SIZE, request, flags, code, &mut writer).map(Some)
             }
-            request => Ok(request.as_ref().map(|(_, asked)| asked.clone())),
+            request => Ok(request.as_ref().map(|(_, asked)| *asked)),
         }
     }
 
@@ -576,37 +569,22 @@ impl fmt::Debug for MessageBuilder {
     }
 }
 
-impl Opt {
-    fn of(edns: &Edns<'_>) -> Self {
-        Opt {
-            max_payload: edns.max_payload,
-            version: edns.version,
-            dnssec_ok: edns.dnssec_ok,
-            options: edns.options.to_vec(),
+/// Appends the item of an OPT record, or none to a reply whose request has no EDNS.
+fn put_edns(edns: &Edns<'_>, asked: Option<&ffi::Edns>, list: &mut Room) -> Result<(), Error> {
+    let (mut few, mut many) = ([0; HEADER_SIZE + ffi::EDNS_SIZE], Vec::new());
+    let message = match edns.options.len() {
+        0 => &mut few[..],
+        len => {
+            many.resize(few.len() + len, 0);
+            &mut many[..]
         }
+    };
+    let mut writer = ffi::Writer::ZERO;
+    ffi::writer_begin(message, usize::MAX, 0, 0, &mut writer)?;
+    edns.write(message, asked, 0, 0, &mut writer)?;
+    if writer.len > HEADER_SIZE {
+        list.extend_from_slice(&[LIST_ADDITIONAL]);
+        list.extend_from_slice(&message[HEADER_SIZE..writer.len]);
     }
-
-    /// Appends the OPT record, which the library writes into a message without other items, as an item of the list, if there is
-    /// one: that of a reply, if something is asked. The high bits of the response code come with the message.
-    fn put(&self, asked: Option<&ffi::Edns>, list: &mut Room) -> Result<(), Error> {
-        let (mut few, mut many) = ([0; HEADER_SIZE + ffi::EDNS_SIZE], Vec::new());
-        let message = match self.options.len() {
-            0 => &mut few[..],
-            len => {
-                many.resize(few.len() + len, 0);
-                &mut many[..]
-            }
-        };
-        let mut writer = ffi::Writer::none();
-        writer.begin(message, usize::MAX, (0, 0))?;
-        match asked {
-            Some(asked) => writer.reply_edns(message, asked, (self.max_payload, 0), &self.options)?,
-            None => writer.edns(message, (0, 0), (self.max_payload, self.version, self.dnssec_ok), &self.options)?,
-        }
-        if writer.len > HEADER_SIZE {
-            list.extend_from_slice(&[ADDITIONALS]);
-            list.extend_from_slice(&message[HEADER_SIZE..writer.len]);
-        }
-        Ok(())
-    }
+    Ok(())
 }

@@ -1,6 +1,6 @@
 //! Record types, classes and serial numbers.
-use crate::error::Error;
 use crate::ffi::{self, CODE_SIZE};
+use crate::Error;
 use core::cmp::Ordering;
 use core::fmt;
 use core::ops::Add;
@@ -302,7 +302,9 @@ macro_rules! code {
         /// Prints the name of the code in capitals, or the text of RFC 3597, section 5, if it has no name.
         impl fmt::Display for $code {
             fn fmt(&self, f: &mut fmt::Formatter<'_>) -> fmt::Result {
-                f.pad($text(self.0, &mut [0; CODE_SIZE]).map_err(|_| fmt::Error)?)
+                let mut room = [0; CODE_SIZE];
+                let len = $text(self.0, &mut room).map_err(|_| fmt::Error)?;
+                f.pad(ffi::str_of(&room[..len]))
             }
         }
 
@@ -317,7 +319,7 @@ macro_rules! code {
             type Err = Error;
 
             fn from_str(text: &str) -> Result<Self, Error> {
-                $parse(text).map($code)
+                $parse(text.as_bytes()).map($code)
             }
         }
 
@@ -332,8 +334,8 @@ macro_rules! code {
     };
 }
 
-code!(RecordType, ffi::type_text, ffi::type_code);
-code!(Class, ffi::class_text, ffi::class_code);
+code!(RecordType, ffi::type_print, ffi::type_parse);
+code!(Class, ffi::class_print, ffi::class_parse);
 
 /// A serial number of a zone, which wraps to 0 after 4294967295 (RFC 1982).
 ///

@@ -2,11 +2,24 @@
 //!
 //! No signature is checked here: see [`Record::signed_octets`].
 //!
+//! ```
+//! use dns_names_wire::{dnssec, Name, RData, RecordBuf};
+//!
+//! // The NSEC record of a.example. says that there is no b.example.
+//! let nsec: RecordBuf = "a.example. 60 IN NSEC ns1.example. A RRSIG NSEC".parse()?;
+//! match nsec.data()? {
+//!     RData::NSEC(data) => {
+//!         let (owner, next) = (nsec.owner().to_name(), data.next.to_name());
+//!         assert!(dnssec::nsec_covers(&owner, &next, &"b.example.".parse::<Name>()?));
+//!     }
+//!     other => panic!("{other:?}"),
+//! }
+//! # Ok::<(), dns_names_wire::Error>(())
+//! ```
+//!
 //! [`Record::signed_octets`]: crate::Record::signed_octets
-use crate::error::Error;
 use crate::ffi;
-use crate::name::Name;
-use crate::record::Record;
+use crate::{Error, Name, Record};
 use alloc::string::String;
 use alloc::vec::Vec;
 
@@ -34,7 +47,8 @@ pub fn key_tag(dnskey: &[u8]) -> Result<u16, Error> {
 ///
 /// # Errors
 ///
-/// `NotDnskey` if the data have fewer than 4 octets or more than 65535; or `UnknownAlgorithm` for another digest type.
+/// `NotDnskey` if the data have fewer than 4 octets or more than 65535; `UnknownAlgorithm` for another digest type; or
+/// `RelativeName` if the owner is not fully qualified.
 ///
 /// ```
 /// use dns_names_wire::{dnssec, Name};
@@ -44,9 +58,8 @@ pub fn key_tag(dnskey: &[u8]) -> Result<u16, Error> {
 /// # Ok::<(), dns_names_wire::Error>(())
 /// ```
 pub fn ds_digest(owner: &Name, dnskey: &[u8], digest_type: u8) -> Result<Vec<u8>, Error> {
-    let mut room = [0; ffi::DIGEST_SIZE];
-    let len = ffi::ds_digest(owner.as_wire(), dnskey, digest_type, &mut room)?;
-    Ok(room[..len].to_vec())
+    let owner = owner.whole_wire()?;
+    ffi::octets(ffi::DIGEST_SIZE, |room| ffi::ds_digest(owner, dnskey, digest_type, room))
 }
 
 /// How NSEC3 hashes names: fields of an NSEC3 or NSEC3PARAM record, and how many iterations the caller allows.
@@ -77,10 +90,22 @@ impl Nsec3Params<'_> {
     ///
     /// # Errors
     ///
-    /// `UnknownAlgorithm` if the algorithm is not 1; or `TooManyIterations` if there are more than are allowed.
+    /// `UnknownAlgorithm` if the algorithm is not 1; `TooManyIterations` if there are more than are allowed; or
+    /// `RelativeName` if the name is not fully qualified.
+    ///
+    /// ```
+    /// use dns_names_wire::{dnssec::Nsec3Params, ErrorKind, Name};
+    ///
+    /// let params = Nsec3Params { algorithm: 1, iterations: 12, salt: b"\xaa\xbb\xcc\xdd", max_iterations: 12 };
+    /// assert_eq!(params.hash(&"example.".parse::<Name>()?)?[..4], [0x06, 0x53, 0x68, 0xAB]);
+    /// let few = Nsec3Params { max_iterations: 11, ..params };
+    /// assert_eq!(few.hash(&Name::root()).unwrap_err().kind(), ErrorKind::TooManyIterations);
+    /// # Ok::<(), dns_names_wire::Error>(())
+    /// ```
     pub fn hash(&self, name: &Name) -> Result<[u8; 20], Error> {
-        let mut hash = [0; ffi::HASH_SIZE];
-        ffi::nsec3_hash(name.as_wire(), self.parts(), &mut hash)?;
+        let mut hash = [0; ffi::NSEC3_HASH_SIZE];
+        let Nsec3Params { algorithm, iterations, salt, max_iterations } = *self;
+        ffi::nsec3_hash(name.whole_wire()?, algorithm, iterations, salt, max_iterations, &mut hash)?;
         Ok(hash)
     }
 
@@ -90,14 +115,20 @@ impl Nsec3Params<'_> {
     /// # Errors
     ///
     /// The errors of [`hash`](Nsec3Params::hash).
+    ///
+    /// ```
+    /// use dns_names_wire::{dnssec::Nsec3Params, Name};
+    ///
+    /// // RFC 5155, appendix A
+    /// let params = Nsec3Params { algorithm: 1, iterations: 12, salt: b"\xaa\xbb\xcc\xdd", max_iterations: 12 };
+    /// assert_eq!(params.label(&"a.example.".parse::<Name>()?)?, "35mthgpgcu1qg68fab165klnsnk3dpvl");
+    /// # Ok::<(), dns_names_wire::Error>(())
+    /// ```
     pub fn label(&self, name: &Name) -> Result<String, Error> {
-        let mut label = [0; ffi::LABEL_SIZE];
-        ffi::nsec3_label(name.as_wire(), self.parts(), &mut label)?;
-        Ok(label.iter().map(|&digit| char::from(digit)).collect())
-    }
-
-    fn parts(&self) -> ffi::Hashing<'_> {
-        (self.algorithm, self.iterations, self.salt, self.max_iterations)
+        let (name, Nsec3Params { algorithm, iterations, salt, max_iterations }) = (name.whole_wire()?, *self);
+        ffi::text(ffi::NSEC3_LABEL_SIZE, |room| {
+            ffi::nsec3_label(name, algorithm, iterations, salt, max_iterations, room)
+        })
     }
 }
 
@@ -130,7 +161,8 @@ pub fn nsec_covers(owner: &Name, next: &Name, name: &Name) -> bool {
 /// assert!(nsec3_covers(&[5; 20], &[2; 20], &[6; 20]));
 /// ```
 pub fn nsec3_covers(own: &[u8], next: &[u8], hash: &[u8]) -> bool {
-    ffi::nsec3_covers(own, next, hash)
+    // Any octets are hashes, so the call does not fail.
+    ffi::nsec3_covers(own, next, hash).unwrap_or(false)
 }
 
 /// Returns the digest of a zone that a ZONEMD record has, by the scheme SIMPLE (RFC 8976, section 3.3.1), from records of
@@ -143,7 +175,8 @@ pub fn nsec3_covers(own: &[u8], next: &[u8], hash: &[u8]) -> bool {
 /// # Errors
 ///
 /// `UnknownAlgorithm` for another hash algorithm; `DataTooLong` if a record has more than 65535 octets of data once
-/// names are uncompressed; the errors of [`Record::data`] for data that are not valid; or `NoMemory`.
+/// names are uncompressed; `RelativeName` if the apex is not fully qualified; the errors of [`Record::data`] for data that
+/// are not valid; or `NoMemory`.
 ///
 /// ```
 /// use dns_names_wire::{dnssec, Name, RecordBuf};
@@ -164,7 +197,6 @@ where
     for record in records {
         record.into().put(&mut list)?;
     }
-    let mut room = [0; ffi::DIGEST_SIZE];
-    let len = ffi::zone_digest(apex.as_wire(), &list, algorithm, &mut room)?;
-    Ok(room[..len].to_vec())
+    let apex = apex.whole_wire()?;
+    ffi::octets(ffi::DIGEST_SIZE, |room| ffi::zone_digest(apex, &list, algorithm, room))
 }

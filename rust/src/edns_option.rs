@@ -1,7 +1,6 @@
 //! EDNS options.
-use crate::error::Error;
 use crate::ffi;
-use crate::name::Name;
+use crate::{Error, Name};
 use alloc::vec::Vec;
 use core::fmt;
 
@@ -50,7 +49,7 @@ impl<'a> EdnsOption<'a> {
     /// prefix is longer than an address of its family, or an address has a bit after its prefix that is not zero (RFC 7871,
     /// section 6); or `NotUtf8` if a text is not UTF-8 (RFC 8914, section 2).
     pub fn data(&self) -> Result<EdnsOptionData<'a>, Error> {
-        let parts = ffi::read_option(self.code, self.octets)?;
+        let parts = ffi::option_read(self.code, self.octets)?;
         let own = &self.octets[parts.offset..][..parts.len];
         Ok(match self.code {
             EdnsOptionData::NSID => EdnsOptionData::Nsid(own),
@@ -90,9 +89,8 @@ impl<'a> From<(u16, &'a [u8])> for EdnsOption<'a> {
 /// The option as `dig` of BIND 9.18 shows it, without the `; ` before it. It fails if memory ran out.
 impl fmt::Display for EdnsOption<'_> {
     fn fmt(&self, f: &mut fmt::Formatter<'_>) -> fmt::Result {
-        let mut text = Vec::new();
-        ffi::print_option(self.code, self.octets, &mut text).map_err(|_| fmt::Error)?;
-        f.write_str(core::str::from_utf8(&text).expect("the C library's texts of options are UTF-8"))
+        let text = ffi::text(ffi::USUAL_SIZE, |room| ffi::option_print(self.code, self.octets, room));
+        f.write_str(&text.map_err(|_| fmt::Error)?)
     }
 }
 
@@ -166,6 +164,15 @@ pub enum EdnsOptionData<'a> {
 }
 
 /// The version of a zone (RFC 9660, section 2).
+///
+/// ```
+/// use dns_names_wire::{EdnsOptionData, ZoneVersion};
+///
+/// let serial = 2026u32.to_be_bytes();
+/// let version = EdnsOptionData::ZoneVersion(Some(ZoneVersion { labels: 2, version_type: 0, version: &serial }));
+/// assert_eq!(version.to_octets()?, [2, 0, 0, 0, 0x07, 0xEA]);
+/// # Ok::<(), dns_names_wire::Error>(())
+/// ```
 #[derive(Clone, Copy, Debug, PartialEq, Eq, Hash)]
 pub struct ZoneVersion<'a> {
     /// How many labels of the name in the question are the zone's.
@@ -202,6 +209,12 @@ impl EdnsOptionData<'_> {
     // made until here
 
     /// Returns the code of the option that says it.
+    ///
+    /// ```
+    /// use dns_names_wire::EdnsOptionData;
+    ///
+    /// assert_eq!(EdnsOptionData::Padding(&[0; 8]).code(), EdnsOptionData::PADDING);
+    /// ```
     pub fn code(&self) -> u16 {
         match self {
             EdnsOptionData::Nsid(_) => Self::NSID,
@@ -231,13 +244,14 @@ impl EdnsOptionData<'_> {
     ///
     /// # Errors
     ///
-    /// As [`EdnsOption::data`] of such octets, if they break a rule; or `NoMemory`. `Unknown` with a code that has a name is
+    /// As [`EdnsOption::data`] of such octets, if they break a rule; `RelativeName` if a name is not fully qualified; or
+    /// `NoMemory`. `Unknown` with a code that has a name is
     /// what its octets are: so it fails if they break a rule of that option.
     pub fn to_octets(&self) -> Result<Vec<u8>, Error> {
-        let mut parts = ffi::OptionParts::default();
+        let mut parts = ffi::OptionParts::ZERO;
         let own: &[u8] = match self {
             EdnsOptionData::Unknown { code, octets } => {
-                parts = ffi::read_option(*code, octets)?;
+                parts = ffi::option_read(*code, octets)?;
                 &octets[parts.offset..]
             }
             EdnsOptionData::Nsid(octets) | EdnsOptionData::Padding(octets) => octets,
@@ -257,7 +271,7 @@ impl EdnsOptionData<'_> {
                 (parts.is_given, parts.timeout) = (timeout.is_some(), timeout.unwrap_or(0));
                 &[]
             }
-            EdnsOptionData::Chain(Some(name)) | EdnsOptionData::ReportChannel(name) => name.as_wire(),
+            EdnsOptionData::Chain(Some(name)) | EdnsOptionData::ReportChannel(name) => name.whole_wire()?,
             EdnsOptionData::ExtendedError { code, text } => {
                 parts.info_code = *code;
                 text.as_bytes()
@@ -268,8 +282,6 @@ impl EdnsOptionData<'_> {
             }
             EdnsOptionData::Chain(None) | EdnsOptionData::ZoneVersion(None) => &[],
         };
-        let mut octets = Vec::new();
-        ffi::write_option(self.code(), &parts, own, &mut octets)?;
-        Ok(octets)
+        ffi::octets(ffi::USUAL_SIZE, |room| ffi::option_write(self.code(), &parts, own, room))
     }
 }

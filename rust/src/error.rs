@@ -23,15 +23,14 @@ pub struct Error {
 enum Place {
     Offset(usize),
     Text(TextFault),
-    Master(ffi::MasterFault),
+    Master(ffi::TextFault),
     Item(Section, u16, usize),
 }
 
 impl Error {
     /// Returns the error with a number of `dns_names_wire.h` other than 0.
     pub(crate) fn from_number(number: u32) -> Self {
-        let named = NUMBERS.iter().find(|(own, _)| *own == number);
-        named.map_or(ErrorKind::Other(number), |(_, kind)| *kind).into()
+        ErrorKind::from_number(number).into()
     }
 
     /// Returns the same error at an offset of the message or the text.
@@ -45,10 +44,10 @@ impl Error {
     }
 
     /// Returns the same error at the fault of a text of a master file, if there is one.
-    pub(crate) fn at_master_fault(self, fault: ffi::MasterFault) -> Self {
-        match fault.is_none() {
-            true => self,
-            false => Error { place: Some(Place::Master(fault)), ..self },
+    pub(crate) fn at_fault_of(self, fault: Result<ffi::TextFault, Error>) -> Self {
+        match fault {
+            Ok(fault) if fault.reason != 0 => Error { place: Some(Place::Master(fault)), ..self },
+            _ => self,
         }
     }
 
@@ -149,163 +148,138 @@ impl Error {
     }
 }
 
-/// What is wrong. It is printed as the C library's text for it.
-///
-/// ```
-/// use dns_names_wire::ErrorKind;
-///
-/// assert_eq!(ErrorKind::MessageCut.to_string(), "the message ends within the name");
-/// ```
-#[derive(Clone, Copy, Debug, PartialEq, Eq, Hash)]
-#[non_exhaustive]
-pub enum ErrorKind {
-    /// The C library is out of memory.
-    NoMemory,
-    /// A buffer of the caller is too short.
-    NoRoom,
-    /// The message ends within the name, or before it.
-    MessageCut,
-    /// A compression pointer does not point backwards, to before the segment that it ends. A segment is a run of labels
-    /// and the pointer or zero octet after it.
-    PointerNotBack,
-    /// An octet from 64 to 191 at the start of a label or a pointer.
-    ReservedOctet,
-    /// A segment of the name runs into the one that points to it.
-    SegmentsOverlap,
-    /// A name takes more than 255 octets.
-    NameTooLong,
-    /// A label takes more than 63 octets.
-    LabelTooLong,
-    /// A label that is empty, or a line of a master file that does not begin with a name.
-    BadText,
-    /// The text of an EDNS option is not UTF-8.
-    NotUtf8,
-    /// Bytes follow a name that should end the input.
-    BytesLeft,
-    /// The message would be longer than its maximum.
-    MessageTooLong,
-    /// A text that is not the name of a type or class.
-    UnknownText,
-    /// A type bitmap that is not valid, or longer than 65535 octets.
-    BadBitmap,
-    /// A text that is not a TTL, or a TTL above 4294967295 seconds.
-    BadTime,
-    /// A text that ends within an escape, or after a carriage return.
-    TextCut,
-    /// A label of a text is empty.
-    EmptyLabel,
-    /// An escape of a text is not three decimal digits up to 255.
-    BadEscape,
-    /// A character that is not allowed there.
-    IllegalCharacter,
-    /// A control character that is not white space.
-    ControlCharacter,
-    /// A text that ends within a list, before its `)`.
-    UnclosedList,
-    /// A text that ends within a quoted text, before its closing quote.
-    UnclosedQuote,
-    /// A `$` that is not the start of `$INCLUDE`, `$ORIGIN` or `$TTL`.
-    UnknownEntry,
-    /// The fields of a record's data do not end where the data do.
-    WrongDataLength,
-    /// A name that is not the reverse name of an address or a net.
-    NotReverse,
-    /// An item that may not be there: in a message after one of a later section or after the last one, or in a set of
-    /// records one with another owner, type or class.
-    BadItem,
-    /// The names of a message follow more compression pointers than the caller allows.
-    TooManyPointers,
-    /// A message with more than one OPT record.
-    DuplicateEdns,
-    /// An OPT record whose owner is not the root.
-    OwnerNotRoot,
-    /// An option of an OPT record that is cut.
-    CutOption,
-    /// Service parameters that are not in ascending order.
-    BadParams,
-    /// A text or octets that are not data of the record type or of an option, or more than 65535 octets of data.
-    BadData,
-    /// A record that should be an RRSIG and is of another type.
-    NotRrsig,
-    /// An RRSIG that covers none of the records.
-    NotCovered,
-    /// An RRSIG whose owner has fewer labels than it counts.
-    TooFewLabels,
-    /// Data of more than 65535 octets, or a character string of more than 255, that should be written.
-    DataTooLong,
-    /// An OPT record in the Answer or Authority section of a message.
-    OutsideAdditionals,
-    /// Octets that are not the data of a DNSKEY.
-    NotDnskey,
-    /// An unknown digest type or hash algorithm.
-    UnknownAlgorithm,
-    /// More iterations of a hash than the caller allows.
-    TooManyIterations,
-    /// An address, a prefix or a gateway that its family or type does not allow.
-    BadFamily,
-    /// A name that is not fully qualified, for a message, a record or an origin. The C library takes none, so it has no number.
-    RelativeName,
-    /// Another error, by its number in `dns_names_wire.h`.
-    Other(u32),
+/// Defines the kinds, each with its number in `dns_names_wire.h`.
+macro_rules! kinds {
+    ($($(#[$doc:meta])* $kind:ident = $number:literal,)*) => {
+        /// What is wrong. It is printed as the C library's text for it.
+        ///
+        /// ```
+        /// use dns_names_wire::ErrorKind;
+        ///
+        /// assert_eq!(ErrorKind::MessageCut.to_string(), "the message ends within the name");
+        /// ```
+        #[derive(Clone, Copy, Debug, PartialEq, Eq, Hash)]
+        #[non_exhaustive]
+        pub enum ErrorKind {
+            $($(#[$doc])* $kind,)*
+            /// A name that is not fully qualified, for a message, a record, a zone or an origin:
+            /// [`Name::set_fqdn`](crate::Name::set_fqdn) makes it so, or an origin completes it. The C library takes none, so
+            /// it has no number.
+            RelativeName,
+            /// Another error, by its number in `dns_names_wire.h`.
+            Other(u32),
+        }
+
+        impl ErrorKind {
+            /// Returns its number in `dns_names_wire.h`, or 0 if it has none.
+            ///
+            /// ```
+            /// assert_eq!(dns_names_wire::ErrorKind::NameTooLong.number(), 7);
+            /// ```
+            pub fn number(self) -> u32 {
+                match self {
+                    $(ErrorKind::$kind => $number,)*
+                    ErrorKind::RelativeName => 0,
+                    ErrorKind::Other(number) => number,
+                }
+            }
+
+            /// Returns the kind with a number of `dns_names_wire.h` other than 0.
+            fn from_number(number: u32) -> Self {
+                match number {
+                    $($number => ErrorKind::$kind,)*
+                    number => ErrorKind::Other(number),
+                }
+            }
+        }
+    };
 }
 
-/// The errors of the C library that have a name in this crate, each with its number in `dns_names_wire.h`.
-const NUMBERS: [(u32, ErrorKind); 41] = [
-    (1, ErrorKind::NoMemory),
-    (2, ErrorKind::NoRoom),
-    (3, ErrorKind::MessageCut),
-    (4, ErrorKind::PointerNotBack),
-    (5, ErrorKind::ReservedOctet),
-    (6, ErrorKind::SegmentsOverlap),
-    (7, ErrorKind::NameTooLong),
-    (8, ErrorKind::LabelTooLong),
-    (9, ErrorKind::BadText),
-    (10, ErrorKind::NotUtf8),
-    (11, ErrorKind::BytesLeft),
-    (12, ErrorKind::MessageTooLong),
-    (14, ErrorKind::UnknownText),
-    (16, ErrorKind::BadBitmap),
-    (17, ErrorKind::BadTime),
-    (18, ErrorKind::TextCut),
-    (19, ErrorKind::IllegalCharacter),
-    (20, ErrorKind::ControlCharacter),
-    (21, ErrorKind::UnclosedList),
-    (22, ErrorKind::UnclosedQuote),
-    (23, ErrorKind::UnknownEntry),
-    (24, ErrorKind::WrongDataLength),
-    (26, ErrorKind::NotReverse),
-    (27, ErrorKind::BadItem),
-    (28, ErrorKind::EmptyLabel),
-    (29, ErrorKind::BadEscape),
-    (30, ErrorKind::TooManyPointers),
-    (31, ErrorKind::DuplicateEdns),
-    (32, ErrorKind::OwnerNotRoot),
-    (33, ErrorKind::CutOption),
-    (34, ErrorKind::BadParams),
-    (35, ErrorKind::BadData),
-    (36, ErrorKind::NotRrsig),
-    (37, ErrorKind::NotCovered),
-    (38, ErrorKind::TooFewLabels),
-    (39, ErrorKind::DataTooLong),
-    (40, ErrorKind::OutsideAdditionals),
-    (41, ErrorKind::NotDnskey),
-    (42, ErrorKind::UnknownAlgorithm),
-    (43, ErrorKind::TooManyIterations),
-    (44, ErrorKind::BadFamily),
-];
-
-impl ErrorKind {
-    /// Returns its number in `dns_names_wire.h`, or 0 if it has none.
-    ///
-    /// ```
-    /// assert_eq!(dns_names_wire::ErrorKind::NameTooLong.number(), 7);
-    /// ```
-    pub fn number(self) -> u32 {
-        match self {
-            ErrorKind::Other(number) => number,
-            named => NUMBERS.iter().find(|(_, kind)| *kind == named).map_or(0, |(number, _)| *number),
-        }
-    }
+kinds! {
+    /// The C library is out of memory.
+    NoMemory = 1,
+    /// A buffer of the caller is too short.
+    NoRoom = 2,
+    /// The message ends within the name, or before it.
+    MessageCut = 3,
+    /// A compression pointer does not point backwards, to before the segment that it ends. A segment is a run of labels
+    /// and the pointer or zero octet after it.
+    PointerNotBack = 4,
+    /// An octet from 64 to 191 at the start of a label or a pointer.
+    ReservedOctet = 5,
+    /// A segment of the name runs into the one that points to it.
+    SegmentsOverlap = 6,
+    /// A name takes more than 255 octets.
+    NameTooLong = 7,
+    /// A label takes more than 63 octets.
+    LabelTooLong = 8,
+    /// A label that is empty, or a line of a master file that does not begin with a name.
+    BadText = 9,
+    /// The text of an EDNS option is not UTF-8.
+    NotUtf8 = 10,
+    /// Bytes follow a name that should end the input.
+    BytesLeft = 11,
+    /// The message would be longer than its maximum.
+    MessageTooLong = 12,
+    /// A text that is not the name of a type or class.
+    UnknownText = 14,
+    /// A type bitmap that is not valid, or longer than 65535 octets.
+    BadBitmap = 16,
+    /// A text that is not a TTL, or a TTL above 4294967295 seconds.
+    BadTime = 17,
+    /// A text that ends within an escape, or after a carriage return.
+    TextCut = 18,
+    /// A label of a text is empty.
+    EmptyLabel = 28,
+    /// An escape of a text is not three decimal digits up to 255.
+    BadEscape = 29,
+    /// A character that is not allowed there.
+    IllegalCharacter = 19,
+    /// A control character that is not white space.
+    ControlCharacter = 20,
+    /// A text that ends within a list, before its `)`.
+    UnclosedList = 21,
+    /// A text that ends within a quoted text, before its closing quote.
+    UnclosedQuote = 22,
+    /// A `$` that is not the start of `$INCLUDE`, `$ORIGIN` or `$TTL`.
+    UnknownEntry = 23,
+    /// The fields of a record's data do not end where the data do.
+    WrongDataLength = 24,
+    /// A name that is not the reverse name of an address or a net.
+    NotReverse = 26,
+    /// An item that may not be there: in a message after one of a later section or after the last one, or in a set of
+    /// records one with another owner, type or class.
+    BadItem = 27,
+    /// The names of a message follow more compression pointers than the caller allows.
+    TooManyPointers = 30,
+    /// A message with more than one OPT record.
+    DuplicateEdns = 31,
+    /// An OPT record whose owner is not the root.
+    OwnerNotRoot = 32,
+    /// An option of an OPT record that is cut.
+    CutOption = 33,
+    /// Service parameters that are not in ascending order.
+    BadParams = 34,
+    /// A text or octets that are not data of the record type or of an option, or more than 65535 octets of data.
+    BadData = 35,
+    /// A record that should be an RRSIG and is of another type.
+    NotRrsig = 36,
+    /// An RRSIG that covers none of the records.
+    NotCovered = 37,
+    /// An RRSIG whose owner has fewer labels than it counts.
+    TooFewLabels = 38,
+    /// Data of more than 65535 octets, or a character string of more than 255, that should be written.
+    DataTooLong = 39,
+    /// An OPT record in the Answer or Authority section of a message.
+    OutsideAdditionals = 40,
+    /// Octets that are not the data of a DNSKEY.
+    NotDnskey = 41,
+    /// An unknown digest type or hash algorithm.
+    UnknownAlgorithm = 42,
+    /// More iterations of a hash than the caller allows.
+    TooManyIterations = 43,
+    /// An address, a prefix or a gateway that its family or type does not allow.
+    BadFamily = 44,
 }
 
 /// An error without a place.
@@ -352,17 +326,10 @@ pub enum TextRule {
 }
 
 impl TextRule {
-    const ALL: [TextRule; 5] = [
-        TextRule::EmptyLabel,
-        TextRule::LabelTooLong,
-        TextRule::NameTooLong,
-        TextRule::BadEscape,
-        TextRule::UnfinishedEscape,
-    ];
-
     /// Returns the rule with a number of `dns_names_wire.h`, if there is one.
     pub(crate) fn from_number(number: u32) -> Option<Self> {
-        Self::ALL.into_iter().find(|rule| *rule as u32 == number)
+        use TextRule::*;
+        [EmptyLabel, LabelTooLong, NameTooLong, BadEscape, UnfinishedEscape].into_iter().find(|it| *it as u32 == number)
     }
 }
 
@@ -388,32 +355,33 @@ pub enum Section {
 impl Section {
     /// Returns the section with a number of `dns_names_wire.h`.
     pub(crate) fn from_number(number: u32) -> Self {
-        match number {
-            1 => Section::Questions,
-            2 => Section::Answers,
-            3 => Section::Authorities,
-            4 => Section::Additionals,
-            _ => Section::Header,
-        }
+        let named = Section::WORDS.into_iter().find(|(section, _)| *section as u32 == number);
+        named.map_or(Section::Header, |(section, _)| section)
     }
+
+    const WORDS: [(Section, &'static str); 5] = [
+        (Section::Header, "header"),
+        (Section::Questions, "question"),
+        (Section::Answers, "answer"),
+        (Section::Authorities, "authority"),
+        (Section::Additionals, "additional"),
+    ];
 }
 
 impl fmt::Display for Section {
     fn fmt(&self, f: &mut fmt::Formatter<'_>) -> fmt::Result {
-        f.pad(match self {
-            Section::Header => "header",
-            Section::Questions => "question",
-            Section::Answers => "answer",
-            Section::Authorities => "authority",
-            Section::Additionals => "additional",
-        })
+        f.pad(Section::WORDS[*self as usize].1)
     }
 }
 
+/// The bytes of the longest text of an error.
+const ERROR_TEXT_SIZE: usize = 64;
+
 /// Prints the C library's text for a number.
 fn show(number: u32, f: &mut fmt::Formatter<'_>) -> fmt::Result {
-    let mut room = [0; ffi::ERROR_TEXT_SIZE];
-    match ffi::error_text(number, &mut room) {
+    let mut room = [0; ERROR_TEXT_SIZE];
+    let len = ffi::error_text(number, &mut room);
+    match ffi::str_of(&room[..len]) {
         "" => write!(f, "failure {number}"),
         text => f.pad(text),
     }
@@ -424,7 +392,7 @@ impl fmt::Display for Error {
         match self.place {
             Some(Place::Offset(offset)) => write!(f, "at offset {offset}: {}", self.kind),
             Some(Place::Text(fault)) => fmt::Display::fmt(&fault, f),
-            Some(Place::Master(fault)) => match ffi::fault_sentence(&fault, &mut [0; ffi::SENTENCE_SIZE]) {
+            Some(Place::Master(fault)) => match ffi::sentence(&fault).as_str() {
                 "" => write!(f, "at offset {}: {}", fault.offset, self.kind),
                 sentence => f.pad(sentence),
             },
@@ -446,7 +414,9 @@ impl fmt::Debug for Error {
 impl fmt::Display for ErrorKind {
     fn fmt(&self, f: &mut fmt::Formatter<'_>) -> fmt::Result {
         match self {
-            ErrorKind::RelativeName => f.pad("a name is not fully qualified"),
+            ErrorKind::RelativeName => {
+                f.pad("a name is not fully qualified: `Name::set_fqdn` or an origin makes it so")
+            }
             kind => show(kind.number(), f),
         }
     }

@@ -1,96 +1,90 @@
 //! The fields of the data of records.
-use crate::codes::{Class, RecordType};
-use crate::error::{Error, ErrorKind};
 use crate::ffi;
-use crate::name_ref::NameRef;
-use crate::octets::{Octets, Sink};
-use crate::type_set::TypeSet;
-use crate::{Ipv4Addr, Ipv6Addr};
+use crate::octets::{shown, Octets};
+use crate::value::{put_long, put_string, Value};
+use crate::{Class, Error, ErrorKind, NameRef, RecordType, TypeSet};
 use alloc::vec::Vec;
 use core::fmt;
 use core::iter::FusedIterator;
 
-/// A field of the data of a record. All but `Types` borrow from the message.
-///
-/// ```
-/// use dns_names_wire::{Field, RecordBuf};
-///
-/// let record: RecordBuf = "a. 60 MX 10 b.".parse()?;
-/// let fields: Vec<Field<'_>> = record.as_record().fields().collect::<Result<_, _>>()?;
-/// assert!(matches!(fields[..], [Field::Number(10), Field::Name(host)] if host.to_string() == "b."));
-/// # Ok::<(), dns_names_wire::Error>(())
-/// ```
-#[derive(Clone, PartialEq, Eq)]
-#[non_exhaustive]
-pub enum Field<'a> {
-    /// A name.
-    Name(NameRef<'a>),
-    /// A number of 1, 2, 4, 6 or 8 octets.
-    Number(u64),
-    /// An IPv4 address, as `Ipv4Addr::from` takes it.
-    Ipv4([u8; 4]),
-    /// An IPv6 address, as `Ipv6Addr::from` takes it.
-    Ipv6([u8; 16]),
-    /// A record type.
-    Type(RecordType),
-    /// A time, in seconds since 1970, as a serial number (RFC 4034, section 3.1.5).
-    Time(u32),
-    /// A text: a character string without its length octet (RFC 1035, section 3.3), or the rest of the data if that is
-    /// text.
-    Text(&'a [u8]),
-    /// Other octets.
-    Octets(&'a [u8]),
-    /// Character strings up to the end of the data.
-    Texts(Texts<'a>),
-    /// A type bitmap (RFC 4034, section 4.1.2).
-    Types(TypeSet),
-    /// Service parameters, each a key and its value (RFC 9460, section 2.2).
-    Params(Pairs<'a>),
-    /// A location: 16 octets if the first, the version, is 0 (RFC 1876, section 2).
-    Location(&'a [u8]),
-    /// The type of a gateway, an algorithm, and the gateway (RFC 4025, sections 2.3 to 2.5).
-    Gateway(&'a [u8]),
-    /// A bit and 7 bits of the type of a relay, and the relay (RFC 8777, section 4.2).
-    Relay(&'a [u8]),
-    /// The length of a tag, an algorithm, two octets of the length of a key, the tag and the key (RFC 8005, section 5).
-    HostIdentity(&'a [u8]),
-    /// Address prefixes (RFC 3123, section 4).
-    Prefixes(Prefixes<'a>),
-    /// Names in their wire form, one after another (RFC 8005, section 5).
-    Names(WholeNames<'a>),
-    /// The length of a prefix, and the octets of an IPv6 address with the other bits (RFC 2874, section 3.1.1).
-    AddressSuffix(&'a [u8]),
+/// Defines `Field`: a variant for each kind of field of the C library, and how it is shown.
+macro_rules! fields {
+    ($(#[$head:meta])* Field { $($(#[$doc:meta])* $name:ident($value:ty) = $kind:ident: $shown:ident,)* }) => {
+        $(#[$head])*
+        #[derive(Clone, PartialEq, Eq)]
+        #[non_exhaustive]
+        pub enum Field<'a> {
+            $($(#[$doc])* $name($value),)*
+        }
+
+        impl<'a> Field<'a> {
+            fn read(message: &'a [u8], field: &ffi::Field) -> Result<Self, Error> {
+                match field.kind {
+                    $(ffi::$kind => Value::read(message, field).map(Field::$name),)*
+                    _ => Value::read(message, field).map(Field::Octets),
+                }
+            }
+        }
+
+        impl fmt::Debug for Field<'_> {
+            fn fmt(&self, f: &mut fmt::Formatter<'_>) -> fmt::Result {
+                match self {
+                    $(Field::$name(value) => f.debug_tuple(stringify!($name)).field(shown!($shown value)).finish(),)*
+                }
+            }
+        }
+    };
 }
 
-impl fmt::Debug for Field<'_> {
-    fn fmt(&self, f: &mut fmt::Formatter<'_>) -> fmt::Result {
-        let shown = match self {
-            Field::Text(octets) | Field::Octets(octets) | Field::Location(octets) | Field::Gateway(octets) => octets,
-            Field::Relay(octets) | Field::HostIdentity(octets) | Field::AddressSuffix(octets) => octets,
-            _ => &[][..],
-        };
-        let shown = Octets(shown);
-        let (name, value): (&str, &dyn fmt::Debug) = match self {
-            Field::Name(name) => ("Name", name),
-            Field::Number(number) => ("Number", number),
-            Field::Ipv4(address) => ("Ipv4", address),
-            Field::Ipv6(address) => ("Ipv6", address),
-            Field::Type(record_type) => ("Type", record_type),
-            Field::Time(time) => ("Time", time),
-            Field::Text(_) => ("Text", &shown),
-            Field::Octets(_) => ("Octets", &shown),
-            Field::Texts(texts) => ("Texts", texts),
-            Field::Types(types) => ("Types", types),
-            Field::Params(pairs) => ("Params", pairs),
-            Field::Location(_) => ("Location", &shown),
-            Field::Gateway(_) => ("Gateway", &shown),
-            Field::Relay(_) => ("Relay", &shown),
-            Field::HostIdentity(_) => ("HostIdentity", &shown),
-            Field::Prefixes(prefixes) => ("Prefixes", prefixes),
-            Field::Names(names) => ("Names", names),
-            Field::AddressSuffix(_) => ("AddressSuffix", &shown),
-        };
-        f.debug_tuple(name).field(value).finish()
+fields! {
+    /// A field of the data of a record. All but `Types` borrow from the message.
+    ///
+    /// ```
+    /// use dns_names_wire::{Field, RecordBuf};
+    ///
+    /// let record: RecordBuf = "a. 60 MX 10 b.".parse()?;
+    /// let fields: Vec<Field<'_>> = record.as_record().fields().collect::<Result<_, _>>()?;
+    /// assert!(matches!(fields[..], [Field::Number(10), Field::Name(host)] if host.to_string() == "b."));
+    /// # Ok::<(), dns_names_wire::Error>(())
+    /// ```
+    Field {
+        /// A name.
+        Name(NameRef<'a>) = FIELD_NAME: shown,
+        /// A number of 1, 2, 4, 6 or 8 octets.
+        Number(u64) = FIELD_NUMBER: shown,
+        /// An IPv4 address, as `Ipv4Addr::from` takes it.
+        Ipv4([u8; 4]) = FIELD_IPV4: shown,
+        /// An IPv6 address, as `Ipv6Addr::from` takes it.
+        Ipv6([u8; 16]) = FIELD_IPV6: shown,
+        /// A record type.
+        Type(RecordType) = FIELD_TYPE: shown,
+        /// A time, in seconds since 1970, as a serial number (RFC 4034, section 3.1.5).
+        Time(u32) = FIELD_TIME: shown,
+        /// A text: a character string without its length octet (RFC 1035, section 3.3), or the rest of the data if that is
+        /// text.
+        Text(&'a [u8]) = FIELD_TEXT: rest,
+        /// Other octets.
+        Octets(&'a [u8]) = FIELD_OCTETS: rest,
+        /// Character strings up to the end of the data.
+        Texts(Texts<'a>) = FIELD_TEXTS: shown,
+        /// A type bitmap (RFC 4034, section 4.1.2).
+        Types(TypeSet) = FIELD_TYPES: shown,
+        /// Service parameters, each a key and its value (RFC 9460, section 2.2).
+        Params(Pairs<'a>) = FIELD_PARAMS: shown,
+        /// A location: 16 octets if the first, the version, is 0 (RFC 1876, section 2).
+        Location(&'a [u8]) = FIELD_LOCATION: rest,
+        /// The type of a gateway, an algorithm, and the gateway (RFC 4025, sections 2.3 to 2.5).
+        Gateway(&'a [u8]) = FIELD_GATEWAY: rest,
+        /// A bit and 7 bits of the type of a relay, and the relay (RFC 8777, section 4.2).
+        Relay(&'a [u8]) = FIELD_RELAY: rest,
+        /// The length of a tag, an algorithm, two octets of the length of a key, the tag and the key (RFC 8005, section 5).
+        HostIdentity(&'a [u8]) = FIELD_HOST_IDENTITY: rest,
+        /// Address prefixes (RFC 3123, section 4).
+        Prefixes(Prefixes<'a>) = FIELD_PREFIXES: shown,
+        /// Names in their wire form, one after another (RFC 8005, section 5).
+        Names(WholeNames<'a>) = FIELD_NAMES: shown,
+        /// The length of a prefix, and the octets of an IPv6 address with the other bits (RFC 2874, section 3.1.1).
+        AddressSuffix(&'a [u8]) = FIELD_ADDRESS_SUFFIX: rest,
     }
 }
 
@@ -114,172 +108,39 @@ pub struct Fields<'a> {
     message: &'a [u8],
     /// where the data begin
     start: usize,
-    /// the codes of class and type
-    form: (u16, u16),
+    class: Class,
+    record_type: RecordType,
     next: ffi::Fields,
     has_ended: bool,
 }
 
 impl<'a> Fields<'a> {
     pub(crate) fn new(message: &'a [u8], start: usize, class: Class, record_type: RecordType) -> Self {
-        let form = (class.code(), record_type.code());
-        Fields { message, start, form, next: ffi::Fields { offset: start, number: 0 }, has_ended: false }
+        let next = ffi::Fields { offset: start, number: 0 };
+        Fields { message, start, class, record_type, next, has_ended: false }
     }
 
-    /// Reads the next field, if there is one.
-    fn read(&mut self) -> Result<Option<Field<'a>>, Error> {
-        let field = ffi::next_field(self.message, self.start, self.form, &mut self.next)?;
-        let octets = &self.message[field.offset..field.offset + field.len];
-        Ok(Some(match field.kind {
-            0 => return Ok(None),
-            1 => Field::Name(NameRef::checked(self.message, field.offset, field.offset + field.len)),
-            2 => Field::Number(number(octets)),
-            3 => Field::Ipv4(array(octets, field.offset)?),
-            4 => Field::Ipv6(array(octets, field.offset)?),
-            5 => Field::Type(RecordType::from(number(octets) as u16)),
-            6 => Field::Time(number(octets) as u32),
-            7 => Field::Text(octets),
-            9 => Field::Texts(Texts(octets)),
-            10 => Field::Types(TypeSet::from_bitmap(octets)?),
-            11 => Field::Params(Pairs(octets)),
-            12 => Field::Location(octets),
-            13 => Field::Gateway(octets),
-            14 => Field::Relay(octets),
-            15 => Field::HostIdentity(octets),
-            16 => Field::Prefixes(Prefixes(octets)),
-            17 => Field::Names(WholeNames::checked(octets)),
-            18 => Field::AddressSuffix(octets),
-            _ => Field::Octets(octets),
-        }))
-    }
-}
-
-/// Reads one field after another, each of the kind that the type has there. See [`RData`](crate::RData).
-impl<'a> Fields<'a> {
-    /// Reads the next field, and returns where it is.
+    /// Returns where the next field is, or that there is none.
     #[inline]
-    fn place(&mut self) -> Result<ffi::Field, Error> {
-        match ffi::next_field(self.message, self.start, self.form, &mut self.next)? {
-            field if field.kind != 0 => Ok(field),
+    fn step(&mut self) -> Result<ffi::Field, Error> {
+        ffi::field_next(self.message, self.start, self.record_type, self.class, &mut self.next)
+            .map_err(|error| error.at_offset(self.next.offset))
+    }
+
+    /// Reads the next field as a value of the kind that the type has there. See [`RData`](crate::RData).
+    #[inline]
+    pub(crate) fn value<V: Value<'a>>(&mut self) -> Result<V, Error> {
+        match self.step()? {
+            field if field.kind != ffi::FIELD_END => V::read(self.message, &field),
             _ => Err(Error::from(ErrorKind::MessageCut).at_offset(self.next.offset)),
         }
-    }
-
-    #[inline]
-    fn octets(&mut self) -> Result<&'a [u8], Error> {
-        let field = self.place()?;
-        Ok(&self.message[field.offset..field.offset + field.len])
-    }
-
-    /// Reads a field of `N` octets.
-    #[inline]
-    fn array<const N: usize>(&mut self) -> Result<[u8; N], Error> {
-        let start = self.next.offset;
-        array(self.octets()?, start)
-    }
-
-    #[inline]
-    pub(crate) fn name(&mut self) -> Result<NameRef<'a>, Error> {
-        let field = self.place()?;
-        Ok(NameRef::checked(self.message, field.offset, field.offset + field.len))
-    }
-
-    #[inline]
-    pub(crate) fn u8(&mut self) -> Result<u8, Error> {
-        self.array().map(u8::from_be_bytes)
-    }
-
-    #[inline]
-    pub(crate) fn u16(&mut self) -> Result<u16, Error> {
-        self.array().map(u16::from_be_bytes)
-    }
-
-    #[inline]
-    pub(crate) fn u32(&mut self) -> Result<u32, Error> {
-        self.array().map(u32::from_be_bytes)
-    }
-
-    /// Reads a number of six octets.
-    pub(crate) fn u48(&mut self) -> Result<u64, Error> {
-        self.array::<6>().map(|octets| number(&octets))
-    }
-
-    pub(crate) fn u64(&mut self) -> Result<u64, Error> {
-        self.array().map(u64::from_be_bytes)
-    }
-
-    pub(crate) fn eui48(&mut self) -> Result<[u8; 6], Error> {
-        self.array()
-    }
-
-    pub(crate) fn eui64(&mut self) -> Result<[u8; 8], Error> {
-        self.array()
-    }
-
-    #[inline]
-    pub(crate) fn ipv4(&mut self) -> Result<Ipv4Addr, Error> {
-        self.array::<4>().map(Ipv4Addr::from)
-    }
-
-    #[inline]
-    pub(crate) fn ipv6(&mut self) -> Result<Ipv6Addr, Error> {
-        self.array::<16>().map(Ipv6Addr::from)
-    }
-
-    pub(crate) fn record_type(&mut self) -> Result<RecordType, Error> {
-        self.u16().map(RecordType::from)
-    }
-
-    pub(crate) fn string(&mut self) -> Result<&'a [u8], Error> {
-        self.octets()
-    }
-
-    pub(crate) fn counted(&mut self) -> Result<&'a [u8], Error> {
-        self.octets()
-    }
-
-    pub(crate) fn rest(&mut self) -> Result<&'a [u8], Error> {
-        self.octets()
-    }
-
-    pub(crate) fn texts(&mut self) -> Result<Texts<'a>, Error> {
-        self.octets().map(Texts)
-    }
-
-    pub(crate) fn types(&mut self) -> Result<TypeSet, Error> {
-        TypeSet::from_bitmap(self.octets()?)
-    }
-
-    pub(crate) fn params(&mut self) -> Result<Pairs<'a>, Error> {
-        self.octets().map(Pairs)
-    }
-
-    /// Reads octets after their number in two octets.
-    pub(crate) fn long(&mut self) -> Result<&'a [u8], Error> {
-        self.octets()
-    }
-
-    /// Reads octets whose first ones say what follows them.
-    pub(crate) fn shaped(&mut self) -> Result<&'a [u8], Error> {
-        self.octets()
-    }
-
-    pub(crate) fn prefixes(&mut self) -> Result<Prefixes<'a>, Error> {
-        self.octets().map(Prefixes)
-    }
-
-    pub(crate) fn whole_names(&mut self) -> Result<WholeNames<'a>, Error> {
-        self.octets().map(WholeNames::checked)
     }
 
     /// Returns whether the first field is the one that the type has in class IN: the data are not left out, and the type
     /// is not only IN's, or the class is one of updates (RFC 2136, sections 2.4 and 2.5).
     pub(crate) fn are_as_in(&self) -> bool {
-        let first = |class: Class| {
-            let field = ffi::next_field(self.message, self.start, (class.code(), self.form.1), &mut self.next.clone());
-            field.map(|field| field.kind).map_err(Error::kind)
-        };
-        first(Class::from(self.form.0)) == first(Class::IN)
+        let first = |class| Fields { class, ..self.clone() }.step().map(|field| field.kind).map_err(Error::kind);
+        first(self.class) == first(Class::IN)
     }
 
     /// Returns the octets that are left.
@@ -291,123 +152,8 @@ impl<'a> Fields<'a> {
     /// Fails with `WrongDataLength` if octets are left.
     #[inline]
     pub(crate) fn end(&mut self) -> Result<(), Error> {
-        ffi::next_field(self.message, self.start, self.form, &mut self.next).map(|_| ())
+        self.step().map(|_| ())
     }
-}
-
-/// Appends a field, in the form that [`Fields`] reads.
-pub(crate) mod put {
-    use super::{
-        Error, ErrorKind, Ipv4Addr, Ipv6Addr, NameRef, Pairs, Prefixes, RecordType, Sink, Texts, TypeSet, WholeNames,
-    };
-
-    type Put = Result<(), Error>;
-
-    /// Appends octets, which the C library checks when the message is written.
-    pub(crate) fn rest(octets: &mut impl Sink, value: &[u8]) -> Put {
-        octets.extend_from_slice(value);
-        Ok(())
-    }
-
-    /// Appends a length octet and octets.
-    pub(crate) fn string(octets: &mut impl Sink, value: &[u8]) -> Put {
-        let len = u8::try_from(value.len()).map_err(|_| Error::from(ErrorKind::DataTooLong))?;
-        u8(octets, &len)?;
-        rest(octets, value)
-    }
-
-    pub(crate) fn counted(octets: &mut impl Sink, value: &[u8]) -> Put {
-        string(octets, value)
-    }
-
-    pub(crate) fn name(octets: &mut impl Sink, value: &NameRef<'_>) -> Put {
-        value.put(octets)
-    }
-
-    pub(crate) fn u8(octets: &mut impl Sink, value: &u8) -> Put {
-        rest(octets, &[*value])
-    }
-
-    pub(crate) fn u16(octets: &mut impl Sink, value: &u16) -> Put {
-        rest(octets, &value.to_be_bytes())
-    }
-
-    pub(crate) fn u32(octets: &mut impl Sink, value: &u32) -> Put {
-        rest(octets, &value.to_be_bytes())
-    }
-
-    /// Appends a number of six octets.
-    pub(crate) fn u48(octets: &mut impl Sink, value: &u64) -> Put {
-        match value >> 48 {
-            0 => rest(octets, &value.to_be_bytes()[2..]),
-            _ => Err(ErrorKind::DataTooLong.into()),
-        }
-    }
-
-    pub(crate) fn u64(octets: &mut impl Sink, value: &u64) -> Put {
-        rest(octets, &value.to_be_bytes())
-    }
-
-    /// Appends the number of octets in two octets, and the octets.
-    pub(crate) fn long(octets: &mut impl Sink, value: &[u8]) -> Put {
-        let len = u16::try_from(value.len()).map_err(|_| Error::from(ErrorKind::DataTooLong))?;
-        u16(octets, &len)?;
-        rest(octets, value)
-    }
-
-    pub(crate) fn shaped(octets: &mut impl Sink, value: &[u8]) -> Put {
-        rest(octets, value)
-    }
-
-    pub(crate) fn prefixes(octets: &mut impl Sink, value: &Prefixes<'_>) -> Put {
-        rest(octets, value.0)
-    }
-
-    pub(crate) fn whole_names(octets: &mut impl Sink, value: &WholeNames<'_>) -> Put {
-        rest(octets, value.left())
-    }
-
-    pub(crate) fn eui48(octets: &mut impl Sink, value: &[u8; 6]) -> Put {
-        rest(octets, value)
-    }
-
-    pub(crate) fn eui64(octets: &mut impl Sink, value: &[u8; 8]) -> Put {
-        rest(octets, value)
-    }
-
-    pub(crate) fn ipv4(octets: &mut impl Sink, value: &Ipv4Addr) -> Put {
-        rest(octets, &value.octets())
-    }
-
-    pub(crate) fn ipv6(octets: &mut impl Sink, value: &Ipv6Addr) -> Put {
-        rest(octets, &value.octets())
-    }
-
-    pub(crate) fn record_type(octets: &mut impl Sink, value: &RecordType) -> Put {
-        u16(octets, &value.code())
-    }
-
-    pub(crate) fn texts(octets: &mut impl Sink, value: &Texts<'_>) -> Put {
-        rest(octets, value.0)
-    }
-
-    pub(crate) fn types(octets: &mut impl Sink, value: &TypeSet) -> Put {
-        rest(octets, &value.to_bitmap()?)
-    }
-
-    pub(crate) fn params(octets: &mut impl Sink, value: &Pairs<'_>) -> Put {
-        rest(octets, value.0)
-    }
-}
-
-/// Returns the number in octets, the highest octet first.
-fn number(octets: &[u8]) -> u64 {
-    octets.iter().fold(0, |number, octet| number << 8 | u64::from(*octet))
-}
-
-/// Returns octets as an array of their length.
-fn array<const N: usize>(octets: &[u8], offset: usize) -> Result<[u8; N], Error> {
-    octets.try_into().map_err(|_| Error::from(ErrorKind::MessageCut).at_offset(offset))
 }
 
 impl<'a> Iterator for Fields<'a> {
@@ -417,41 +163,115 @@ impl<'a> Iterator for Fields<'a> {
         if self.has_ended {
             return None;
         }
-        let field = self.read();
-        self.has_ended = !matches!(field, Ok(Some(_)));
-        field.transpose()
+        let field = match self.step() {
+            Ok(field) if field.kind == ffi::FIELD_END => None,
+            Ok(field) => Some(Field::read(self.message, &field)),
+            Err(error) => Some(Err(error)),
+        };
+        self.has_ended = !matches!(field, Some(Ok(_)));
+        field
     }
 }
 
 impl FusedIterator for Fields<'_> {}
 
-/// Character strings, each without its length octet.
-///
-/// ```
-/// use dns_names_wire::{Field, Record};
-///
-/// // the root, TXT "a" "bc"
-/// let record = Record::read(b"\0\0\x10\0\x01\0\0\0\0\0\x05\x01a\x02bc", 0)?;
-/// match record.fields().next() {
-///     Some(Ok(Field::Texts(texts))) => assert!(texts.eq([&b"a"[..], b"bc"])),
-///     other => panic!("{other:?}"),
-/// }
-/// # Ok::<(), dns_names_wire::Error>(())
-/// ```
-#[derive(Clone, PartialEq, Eq)]
-pub struct Texts<'a>(&'a [u8]);
+/// Defines the lists, each with the item that its iterator returns, and how this is shown.
+macro_rules! lists {
+    ($($(#[$doc:meta])* $name:ident: $debug:ident, $item:expr;)*) => {$(
+        $(#[$doc])*
+        #[derive(Clone, PartialEq, Eq)]
+        pub struct $name<'a>(&'a [u8]);
+
+        impl<'a> $name<'a> {
+            /// Returns the list in octets that were checked.
+            pub(crate) fn checked(octets: &'a [u8]) -> Self {
+                $name(octets)
+            }
+
+            /// Returns the octets of the items that are left.
+            pub(crate) fn left(&self) -> &'a [u8] {
+                self.0
+            }
+        }
+
+        impl FusedIterator for $name<'_> {}
+
+        impl fmt::Debug for $name<'_> {
+            fn fmt(&self, f: &mut fmt::Formatter<'_>) -> fmt::Result {
+                f.$debug().entries(self.clone().map($item)).finish()
+            }
+        }
+    )*};
+}
+
+lists! {
+    /// Character strings, each without its length octet.
+    ///
+    /// ```
+    /// use dns_names_wire::{Field, Record};
+    ///
+    /// // the root, TXT "a" "bc"
+    /// let record = Record::read(b"\0\0\x10\0\x01\0\0\0\0\0\x05\x01a\x02bc", 0)?;
+    /// match record.fields().next() {
+    ///     Some(Ok(Field::Texts(texts))) => assert!(texts.eq([&b"a"[..], b"bc"])),
+    ///     other => panic!("{other:?}"),
+    /// }
+    /// # Ok::<(), dns_names_wire::Error>(())
+    /// ```
+    Texts: debug_list, Octets;
+
+    /// Pairs of a number and octets: service parameters, each a key and its value, or EDNS options, each a code and its
+    /// octets.
+    ///
+    /// ```
+    /// use dns_names_wire::{Field, Record};
+    ///
+    /// // the root, SVCB 1 . port=53
+    /// let record = Record::read(b"\0\0\x40\0\x01\0\0\0\0\0\x09\0\x01\0\0\x03\0\x02\0\x35", 0)?;
+    /// match record.fields().last() {
+    ///     Some(Ok(Field::Params(mut params))) => assert_eq!(params.next(), Some((3, &b"\0\x35"[..]))),
+    ///     other => panic!("{other:?}"),
+    /// }
+    /// # Ok::<(), dns_names_wire::Error>(())
+    /// ```
+    Pairs: debug_map, |(number, octets)| (number, Octets(octets));
+
+    /// Address prefixes up to the end of the data.
+    ///
+    /// ```
+    /// use dns_names_wire::{Field, Record};
+    ///
+    /// // the root, APL !1:192.168.38.0/28
+    /// let record = Record::read(b"\0\0\x2A\0\x01\0\0\0\0\0\x07\0\x01\x1C\x83\xC0\xA8\x26", 0)?;
+    /// match record.fields().next() {
+    ///     Some(Ok(Field::Prefixes(mut prefixes))) => {
+    ///         let prefix = prefixes.next().unwrap();
+    ///         assert_eq!((prefix.family, prefix.length, prefix.is_negated), (1, 28, true));
+    ///         assert_eq!(prefix.octets, [192, 168, 38]);
+    ///     }
+    ///     other => panic!("{other:?}"),
+    /// }
+    /// # Ok::<(), dns_names_wire::Error>(())
+    /// ```
+    Prefixes: debug_list, |prefix| prefix;
+
+    /// Names in their wire form up to the end of the data.
+    ///
+    /// ```
+    /// use dns_names_wire::{Field, Record};
+    ///
+    /// // the root, HIP 1 00 00 a.
+    /// let record = Record::read(b"\0\0\x37\0\x01\0\0\0\0\0\x09\x01\x01\0\x01\0\0\x01a\0", 0)?;
+    /// match record.fields().last() {
+    ///     Some(Ok(Field::Names(mut names))) => assert_eq!(names.next().unwrap().to_string(), "a."),
+    ///     other => panic!("{other:?}"),
+    /// }
+    /// # Ok::<(), dns_names_wire::Error>(())
+    /// ```
+    WholeNames: debug_list, |name| name;
+}
 
 impl<'a> Texts<'a> {
-    /// Returns the character strings in octets that were checked.
-    pub(crate) fn checked(octets: &'a [u8]) -> Self {
-        Texts(octets)
-    }
-
-    /// Returns the octets of the character strings that are left.
-    pub(crate) fn left(&self) -> &'a [u8] {
-        self.0
-    }
-
     /// Returns the character strings in octets, where each has a length octet before it.
     ///
     /// # Errors
@@ -492,7 +312,7 @@ impl<'a> Texts<'a> {
     /// ```
     pub fn to_wire<T: AsRef<[u8]>>(texts: impl IntoIterator<Item = T>) -> Result<Vec<u8>, Error> {
         let mut octets = Vec::new();
-        texts.into_iter().try_for_each(|text| put::string(&mut octets, text.as_ref()))?;
+        texts.into_iter().try_for_each(|text| put_string(&mut octets, text.as_ref()))?;
         Ok(octets)
     }
 }
@@ -509,42 +329,7 @@ impl<'a> Iterator for Texts<'a> {
     }
 }
 
-impl FusedIterator for Texts<'_> {}
-
-impl fmt::Debug for Texts<'_> {
-    fn fmt(&self, f: &mut fmt::Formatter<'_>) -> fmt::Result {
-        f.debug_list().entries(self.clone().map(Octets)).finish()
-    }
-}
-
-/// Pairs of a number and octets: service parameters, each a key and its value, or EDNS options, each a code and its
-/// octets.
-///
-/// ```
-/// use dns_names_wire::{Field, Record};
-///
-/// // the root, SVCB 1 . port=53
-/// let record = Record::read(b"\0\0\x40\0\x01\0\0\0\0\0\x09\0\x01\0\0\x03\0\x02\0\x35", 0)?;
-/// match record.fields().last() {
-///     Some(Ok(Field::Params(mut params))) => assert_eq!(params.next(), Some((3, &b"\0\x35"[..]))),
-///     other => panic!("{other:?}"),
-/// }
-/// # Ok::<(), dns_names_wire::Error>(())
-/// ```
-#[derive(Clone, PartialEq, Eq)]
-pub struct Pairs<'a>(&'a [u8]);
-
 impl<'a> Pairs<'a> {
-    /// Returns the pairs in octets that were checked.
-    pub(crate) fn checked(octets: &'a [u8]) -> Self {
-        Pairs(octets)
-    }
-
-    /// Returns the octets of the pairs that are left.
-    pub(crate) fn left(&self) -> &'a [u8] {
-        self.0
-    }
-
     /// Returns the pairs in octets. Each is two octets of number, two of length, and as many octets as that.
     ///
     /// # Errors
@@ -584,11 +369,8 @@ impl<'a> Pairs<'a> {
     pub fn to_wire<T: AsRef<[u8]>>(pairs: impl IntoIterator<Item = (u16, T)>) -> Result<Vec<u8>, Error> {
         let mut octets = Vec::new();
         for (number, value) in pairs {
-            let value = value.as_ref();
-            let len = u16::try_from(value.len()).map_err(|_| Error::from(ErrorKind::DataTooLong))?;
-            octets.extend_from_slice(&number.to_be_bytes());
-            octets.extend_from_slice(&len.to_be_bytes());
-            octets.extend_from_slice(value);
+            number.put(&mut octets)?;
+            put_long(&mut octets, value.as_ref())?;
         }
         Ok(octets)
     }
@@ -603,14 +385,6 @@ impl<'a> Iterator for Pairs<'a> {
         let (value, rest) = rest.split_at(len);
         self.0 = rest;
         Some((u16::from_be_bytes([head[0], head[1]]), value))
-    }
-}
-
-impl FusedIterator for Pairs<'_> {}
-
-impl fmt::Debug for Pairs<'_> {
-    fn fmt(&self, f: &mut fmt::Formatter<'_>) -> fmt::Result {
-        f.debug_map().entries(self.clone().map(|(number, octets)| (number, Octets(octets)))).finish()
     }
 }
 
@@ -634,38 +408,6 @@ pub struct Prefix<'a> {
     pub octets: &'a [u8],
 }
 
-/// Address prefixes up to the end of the data.
-///
-/// ```
-/// use dns_names_wire::{Field, Record};
-///
-/// // the root, APL !1:192.168.38.0/28
-/// let record = Record::read(b"\0\0\x2A\0\x01\0\0\0\0\0\x07\0\x01\x1C\x83\xC0\xA8\x26", 0)?;
-/// match record.fields().next() {
-///     Some(Ok(Field::Prefixes(mut prefixes))) => {
-///         let prefix = prefixes.next().unwrap();
-///         assert_eq!((prefix.family, prefix.length, prefix.is_negated), (1, 28, true));
-///         assert_eq!(prefix.octets, [192, 168, 38]);
-///     }
-///     other => panic!("{other:?}"),
-/// }
-/// # Ok::<(), dns_names_wire::Error>(())
-/// ```
-#[derive(Clone, PartialEq, Eq)]
-pub struct Prefixes<'a>(&'a [u8]);
-
-impl<'a> Prefixes<'a> {
-    /// Returns the prefixes in octets that were checked.
-    pub(crate) fn checked(octets: &'a [u8]) -> Self {
-        Prefixes(octets)
-    }
-
-    /// Returns the octets of the prefixes that are left.
-    pub(crate) fn left(&self) -> &'a [u8] {
-        self.0
-    }
-}
-
 impl<'a> Iterator for Prefixes<'a> {
     type Item = Prefix<'a>;
 
@@ -678,49 +420,10 @@ impl<'a> Iterator for Prefixes<'a> {
     }
 }
 
-impl FusedIterator for Prefixes<'_> {}
-
 impl fmt::Debug for Prefix<'_> {
     fn fmt(&self, f: &mut fmt::Formatter<'_>) -> fmt::Result {
         let sign = if self.is_negated { "!" } else { "" };
         write!(f, "{sign}{}:{:?}/{}", self.family, Octets(self.octets), self.length)
-    }
-}
-
-impl fmt::Debug for Prefixes<'_> {
-    fn fmt(&self, f: &mut fmt::Formatter<'_>) -> fmt::Result {
-        f.debug_list().entries(self.clone()).finish()
-    }
-}
-
-/// Names in their wire form up to the end of the data.
-///
-/// ```
-/// use dns_names_wire::{Field, Record};
-///
-/// // the root, HIP 1 00 00 a.
-/// let record = Record::read(b"\0\0\x37\0\x01\0\0\0\0\0\x09\x01\x01\0\x01\0\0\x01a\0", 0)?;
-/// match record.fields().last() {
-///     Some(Ok(Field::Names(mut names))) => assert_eq!(names.next().unwrap().to_string(), "a."),
-///     other => panic!("{other:?}"),
-/// }
-/// # Ok::<(), dns_names_wire::Error>(())
-/// ```
-#[derive(Clone, PartialEq, Eq)]
-pub struct WholeNames<'a> {
-    octets: &'a [u8],
-    offset: usize,
-}
-
-impl<'a> WholeNames<'a> {
-    /// Returns the names in octets that were checked.
-    pub(crate) fn checked(octets: &'a [u8]) -> Self {
-        WholeNames { octets, offset: 0 }
-    }
-
-    /// Returns the octets of the names that are left.
-    pub(crate) fn left(&self) -> &'a [u8] {
-        &self.octets[self.offset..]
     }
 }
 
@@ -729,16 +432,8 @@ impl<'a> Iterator for WholeNames<'a> {
 
     fn next(&mut self) -> Option<NameRef<'a>> {
         // The names were checked, so none is there only at the end.
-        let name = NameRef::read(self.octets, self.offset).ok()?;
-        self.offset = name.end();
+        let name = NameRef::read(self.0, 0).ok()?;
+        self.0 = &self.0[name.end()..];
         Some(name)
-    }
-}
-
-impl FusedIterator for WholeNames<'_> {}
-
-impl fmt::Debug for WholeNames<'_> {
-    fn fmt(&self, f: &mut fmt::Formatter<'_>) -> fmt::Result {
-        f.debug_list().entries(self.clone()).finish()
     }
 }

@@ -1,4 +1,5 @@
 //! The headers of messages, and the codes in them.
+use crate::ffi;
 use core::fmt;
 
 /// Defines an enum for a code of a header, with a variant for codes without a name.
@@ -19,6 +20,13 @@ macro_rules! codes {
                     $($value => $code::$name,)*
                     code => $code::Unknown(code),
                 }
+            }
+        }
+
+        /// The code 0.
+        impl Default for $code {
+            fn default() -> Self {
+                $code::from(0)
             }
         }
 
@@ -135,7 +143,7 @@ codes! {
 /// let header = Header::default();
 /// assert_eq!((header.id, header.op_code, header.response_code), (0, OpCode::Query, ResponseCode::NoError));
 /// ```
-#[derive(Clone, Copy, Debug, PartialEq, Eq, Hash)]
+#[derive(Clone, Copy, Debug, Default, PartialEq, Eq, Hash)]
 #[non_exhaustive]
 pub struct Header {
     /// The id of a request, which its response repeats.
@@ -168,39 +176,18 @@ pub struct Header {
     pub additional_count: u16,
 }
 
-impl Default for Header {
-    fn default() -> Self {
-        Header {
-            id: 0,
-            is_response: false,
-            op_code: OpCode::Query,
-            authoritative: false,
-            truncation: false,
-            recursion_desired: false,
-            recursion_available: false,
-            authentic_data: false,
-            checking_disabled: false,
-            response_code: ResponseCode::NoError,
-            question_count: 0,
-            answer_count: 0,
-            authority_count: 0,
-            additional_count: 0,
-        }
-    }
-}
-
 impl Header {
     /// Returns the 16 bits after the id.
     pub(crate) fn flag_bits(&self) -> u16 {
-        let bit = |is_set: bool, at: u8| u16::from(is_set) << at;
-        bit(self.is_response, 15)
-            | u16::from(u8::from(self.op_code) & 15) << 11
-            | bit(self.authoritative, 10)
-            | bit(self.truncation, 9)
-            | bit(self.recursion_desired, 8)
-            | bit(self.recursion_available, 7)
-            | bit(self.authentic_data, 5)
-            | bit(self.checking_disabled, 4)
-            | u16::from(self.response_code) & 15
+        let codes = u16::from(u8::from(self.op_code) & 15) << 11 | u16::from(self.response_code) & 15;
+        let flag = |is_set: bool, flag: u16| if is_set { flag } else { 0 };
+        codes
+            | flag(self.is_response, ffi::FLAG_RESPONSE)
+            | flag(self.authoritative, ffi::FLAG_AUTHORITATIVE)
+            | flag(self.truncation, ffi::FLAG_TRUNCATION)
+            | flag(self.recursion_desired, ffi::FLAG_RECURSION_DESIRED)
+            | flag(self.recursion_available, ffi::FLAG_RECURSION_AVAILABLE)
+            | flag(self.authentic_data, ffi::FLAG_AUTHENTIC_DATA)
+            | flag(self.checking_disabled, ffi::FLAG_CHECKING_DISABLED)
     }
 }

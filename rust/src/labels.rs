@@ -31,8 +31,7 @@ impl<'a> Labels<'a> {
 
     /// Returns the number of labels that are left.
     fn count_left(&self) -> usize {
-        let mut at = self.at;
-        self.left.unwrap_or_else(|| core::iter::from_fn(|| step(self.message, &mut at)).count())
+        self.left.unwrap_or_else(|| self.clone().count())
     }
 }
 
@@ -76,11 +75,7 @@ impl DoubleEndedIterator for Labels<'_> {
     fn next_back(&mut self) -> Option<Self::Item> {
         let left = self.count_left().checked_sub(1)?;
         self.left = Some(left);
-        let mut at = self.at;
-        (0..left).for_each(|_| {
-            step(self.message, &mut at);
-        });
-        step(self.message, &mut at)
+        Labels { left: None, ..*self }.nth(left)
     }
 }
 

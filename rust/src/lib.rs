@@ -3,7 +3,7 @@
 //! The library is the static archive of the C library of `dns-names-wire`, whose every function is proved. Its reader
 //! accepts exactly the names of RFC 1035, section 4.1.4, and no input makes it read outside the message, loop or panic.
 //! This crate itself is not proved: it is small, has no dependency, and its only `unsafe` is in the module of the C
-//! declarations.
+//! functions, which is made of their header.
 //!
 //! ```
 //! use dns_names_wire::{Error, Name};
@@ -49,25 +49,21 @@
 //! `build.rs` takes the archive from the folder that the environment variable `DNW_LIB_DIR` names, or from `lib` in
 //! this crate. In a checkout of the repository it builds the archive, if the Rattle toolchain is there.
 #![cfg_attr(core_alone, no_std)]
-#![deny(unsafe_code)]
-#![warn(missing_docs)]
+#![deny(unsafe_code, missing_docs)]
+#![warn(clippy::undocumented_unsafe_blocks)]
 
 extern crate alloc;
 
 #[allow(unsafe_code)]
-#[cfg_attr(not(feature = "std"), allow(dead_code))]
 mod ffi;
 
 #[cfg(core_alone)]
-use core::{
-    error::Error as StdError,
-    net::{IpAddr, Ipv4Addr, Ipv6Addr},
-};
+use core as base;
 #[cfg(not(core_alone))]
-use std::{
-    error::Error as StdError,
-    net::{IpAddr, Ipv4Addr, Ipv6Addr},
-};
+use std as base;
+
+use base::error::Error as StdError;
+use base::net::{IpAddr, Ipv4Addr, Ipv6Addr};
 
 mod builder;
 mod codes;
@@ -77,6 +73,7 @@ mod error;
 mod field;
 mod form;
 mod header;
+mod items;
 mod labels;
 mod message;
 mod name;
@@ -90,6 +87,7 @@ mod record_set;
 mod transfer;
 mod ttl;
 mod type_set;
+mod value;
 mod writer;
 mod zone;
 

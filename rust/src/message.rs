@@ -1,18 +1,10 @@
 //! Whole messages, which are checked once.
-use crate::codes::{Class, RecordType};
-use crate::error::Error;
-use crate::ffi::{self, Layout, HEADER_SIZE};
-use crate::field::Pairs;
-use crate::header::{Header, ResponseCode};
-use crate::name_ref::NameRef;
-use crate::record::Record;
+use crate::ffi::{self, HEADER_SIZE, MAX_POINTERS};
+use crate::items::counted;
+use crate::{Class, Error, Header, NameRef, Pairs, Record, RecordType, ResponseCode, Section};
 use alloc::string::String;
 use alloc::vec::Vec;
 use core::fmt;
-use core::iter::FusedIterator;
-
-/// How many compression pointers the names of a message may follow in total, by default.
-const MAX_POINTERS: usize = 65536;
 
 /// A message that was checked as a whole (RFC 1035, section 4): its header, its questions and its records are all
 /// there. It borrows the octets that it was read from.
@@ -75,8 +67,11 @@ impl<'a> Message<'a> {
     /// assert_eq!(Message::read_limited(octets, 0).unwrap_err().kind(), ErrorKind::TooManyPointers);
     /// ```
     pub fn read_limited(octets: &'a [u8], max_pointers: usize) -> Result<Self, Error> {
-        let read = ffi::read_message(octets, max_pointers)?;
-        Ok(Message { octets, max_pointers, read })
+        let mut fault = ffi::MessageFault::ZERO;
+        match ffi::message_read(octets, max_pointers, &mut fault) {
+            Ok(read) => Ok(Message { octets, max_pointers, read }),
+            Err(error) => Err(error.at_item(Section::from_number(fault.section), fault.item, fault.offset)),
+        }
     }
 
     /// Returns the header.
@@ -174,19 +169,11 @@ impl<'a> Message<'a> {
     /// ```
     pub fn edns(&self) -> Result<Option<Edns<'a>>, Error> {
         let read = self.read_edns()?;
-        if !read.is_present {
-            return Ok(None);
-        }
-        Ok(Some(Edns {
-            max_payload: read.max_payload,
-            version: read.version,
-            dnssec_ok: read.dnssec_ok,
-            options: &self.octets[read.options_offset..read.options_offset + read.options_len],
-        }))
+        Ok(Edns::of(&read, &self.octets[read.options_offset..][..read.options_len]))
     }
 
     fn read_edns(&self) -> Result<ffi::Edns, Error> {
-        ffi::read_edns(self.octets, self.max_pointers)
+        ffi::edns_read(self.octets, self.max_pointers)
     }
 
     /// Returns the response code, with the high bits from the OPT record (RFC 6891, section 6.1.3).
@@ -265,8 +252,10 @@ impl<'a> Message<'a> {
     /// # Ok::<(), dns_names_wire::Error>(())
     /// ```
     pub fn to_padded_wire(&self, max_size: u16, block: u16) -> Result<Vec<u8>, Error> {
-        let mut packed = Vec::new();
-        ffi::pack(self.octets(), max_size, block, &mut packed)?;
+        // The buffer is a limit too: what has no room in it is left out.
+        let room = HEADER_SIZE.max(max_size.into());
+        let pack = |room: ffi::Buffer<'_>| ffi::message_pack(self.octets(), max_size, block, room).map(|it| it.len);
+        let mut packed = ffi::octets(room, pack)?;
         packed.shrink_to_fit();
         Ok(packed)
     }
@@ -288,7 +277,24 @@ impl<'a> Message<'a> {
     /// # Ok::<(), dns_names_wire::Error>(())
     /// ```
     pub fn to_json(&self) -> Result<String, Error> {
-        ffi::print_message(self.octets, self.max_pointers, Layout::Json)
+        self.print(|message, most, start, room| ffi::message_json(message, most, start, room))
+    }
+
+    /// Returns the text of the message, which a call stores from an offset of it on.
+    fn print<F>(&self, print: F) -> Result<String, Error>
+    where
+        F: Fn(&[u8], usize, usize, ffi::Buffer<'_>) -> Result<ffi::PrintedPart, Error>,
+    {
+        let (mut text, mut total) = (Vec::new(), ffi::USUAL_SIZE);
+        while text.len() < total {
+            let (start, left) = (text.len(), total - text.len());
+            ffi::append(&mut text, left, |room| {
+                let part = print(self.octets, self.max_pointers, start, room)?;
+                total = part.total;
+                Ok(part.len)
+            })?;
+        }
+        Ok(String::from_utf8(text).expect("the C library's texts are UTF-8"))
     }
 
     /// Returns the octets of the message, without those that follow it.
@@ -335,8 +341,8 @@ impl<'a> Message<'a> {
 /// ```
 impl fmt::Display for Message<'_> {
     fn fmt(&self, f: &mut fmt::Formatter<'_>) -> fmt::Result {
-        let text = ffi::print_message(self.octets, self.max_pointers, Layout::Dig).map_err(|_| fmt::Error)?;
-        f.write_str(&text)
+        let text = self.print(|message, most, start, room| ffi::message_print(message, most, start, room));
+        f.write_str(&text.map_err(|_| fmt::Error)?)
     }
 }
 
@@ -363,6 +369,16 @@ impl<'a> TryFrom<&'a [u8]> for Message<'a> {
 }
 
 /// A question (RFC 1035, section 4.1.2). It is printed as its name, its class and its type, with tabs between them.
+///
+/// ```
+/// use dns_names_wire::{Class, Message, RecordType};
+///
+/// let message = Message::read(b"\0\0\0\0\0\x01\0\0\0\0\0\0\x01b\0\0\x0F\0\x01")?;
+/// let question = message.questions().next().unwrap();
+/// assert_eq!((question.question_type, question.class), (RecordType::MX, Class::IN));
+/// assert_eq!(question.to_string(), "b.\tIN\tMX");
+/// # Ok::<(), dns_names_wire::Error>(())
+/// ```
 #[derive(Clone, Copy, PartialEq, Eq)]
 #[non_exhaustive]
 pub struct Question<'a> {
@@ -372,6 +388,16 @@ pub struct Question<'a> {
     pub question_type: RecordType,
     /// The class that is asked for.
     pub class: Class,
+}
+
+impl<'a> Question<'a> {
+    /// Reads the question at an offset of a message, and returns the offset after it.
+    fn read(message: &'a [u8], start: usize) -> Option<(Self, usize)> {
+        let name = NameRef::read(message, start).ok()?;
+        let [t, u, c, d]: [u8; 4] = message.get(name.end()..name.end() + 4)?.try_into().ok()?;
+        let (question_type, class) = (u16::from_be_bytes([t, u]).into(), u16::from_be_bytes([c, d]).into());
+        Some((Question { name, question_type, class }, name.end() + 4))
+    }
 }
 
 impl fmt::Display for Question<'_> {
@@ -386,65 +412,42 @@ impl fmt::Debug for Question<'_> {
     }
 }
 
-/// An iterator over the questions of a message. See [`Message::questions`].
-#[derive(Clone, Debug)]
-pub struct Questions<'a> {
-    message: &'a [u8],
-    offset: usize,
-    left: u16,
+counted! {
+    /// An iterator over the questions of a message. See [`Message::questions`].
+    ///
+    /// ```
+    /// let message = dns_names_wire::Message::read(b"\0\0\0\0\0\x01\0\0\0\0\0\0\0\0\x02\0\x01")?;
+    /// let mut questions = message.questions();
+    /// assert_eq!(questions.len(), 1);
+    /// assert!(questions.next().is_some() && questions.next().is_none());
+    /// # Ok::<(), dns_names_wire::Error>(())
+    /// ```
+    Questions: Question, Question::read
 }
 
-impl<'a> Iterator for Questions<'a> {
-    type Item = Question<'a>;
-
-    fn next(&mut self) -> Option<Question<'a>> {
-        self.left = self.left.checked_sub(1)?;
-        // The message was checked, so nothing is missing here.
-        let name = NameRef::read(self.message, self.offset).ok()?;
-        let fields = self.message.get(name.end()..name.end() + 4)?;
-        self.offset = name.end() + 4;
-        let number = |at: usize| u16::from_be_bytes([fields[at], fields[at + 1]]);
-        Some(Question { name, question_type: number(0).into(), class: number(2).into() })
-    }
-
-    fn size_hint(&self) -> (usize, Option<usize>) {
-        (self.left.into(), Some(self.left.into()))
-    }
+counted! {
+    /// An iterator over the records of a section of a message. See [`Message::answers`].
+    ///
+    /// ```
+    /// let octets = b"\0\0\x80\0\0\0\0\x01\0\0\0\0\0\0\x01\0\x01\0\0\0\x3C\0\x04\xC0\0\x02\x01";
+    /// let mut answers = dns_names_wire::Message::read(octets)?.answers();
+    /// assert_eq!(answers.len(), 1);
+    /// assert_eq!(answers.next().unwrap().to_string(), ". 60 IN A 192.0.2.1");
+    /// # Ok::<(), dns_names_wire::Error>(())
+    /// ```
+    SectionRecords: Record, |message, offset| Record::read(message, offset).ok().map(|record| (record, record.end()))
 }
-
-impl ExactSizeIterator for Questions<'_> {}
-
-impl FusedIterator for Questions<'_> {}
-
-/// An iterator over the records of a section of a message. See [`Message::answers`].
-#[derive(Clone, Debug)]
-pub struct SectionRecords<'a> {
-    message: &'a [u8],
-    offset: usize,
-    left: u16,
-}
-
-impl<'a> Iterator for SectionRecords<'a> {
-    type Item = Record<'a>;
-
-    fn next(&mut self) -> Option<Record<'a>> {
-        self.left = self.left.checked_sub(1)?;
-        // The message was checked, so nothing is missing here.
-        let record = Record::checked(self.message, self.offset)?;
-        self.offset = record.end();
-        Some(record)
-    }
-
-    fn size_hint(&self) -> (usize, Option<usize>) {
-        (self.left.into(), Some(self.left.into()))
-    }
-}
-
-impl ExactSizeIterator for SectionRecords<'_> {}
-
-impl FusedIterator for SectionRecords<'_> {}
 
 /// The EDNS fields of a message (RFC 6891, section 6.1). See [`Message::edns`].
+///
+/// ```
+/// use dns_names_wire::{Edns, Message, MessageBuilder, Name, RecordType};
+///
+/// let query = MessageBuilder::query(7, &Name::root(), RecordType::NS).edns(&Edns::new(1232)).finish(512)?;
+/// let edns = Message::read(&query)?.edns()?.unwrap();
+/// assert_eq!((edns.max_payload, edns.version, edns.dnssec_ok), (1232, 0, false));
+/// # Ok::<(), dns_names_wire::Error>(())
+/// ```
 #[derive(Clone, Copy, PartialEq, Eq)]
 #[non_exhaustive]
 pub struct Edns<'a> {
@@ -484,6 +487,31 @@ impl<'a> Edns<'a> {
     /// ```
     pub fn with_options(self, options: Pairs<'a>) -> Self {
         Edns { options: options.left(), ..self }
+    }
+
+    /// Returns the fields that a message has, if it has any.
+    pub(crate) fn of(read: &ffi::Edns, options: &'a [u8]) -> Option<Self> {
+        let ffi::Edns { max_payload, version, dnssec_ok, .. } = *read;
+        Some(Edns { max_payload, version, dnssec_ok, options }).filter(|_| read.is_present)
+    }
+
+    /// Writes these fields, or in a reply those that its request has it say, with the high bits of a response code.
+    pub(crate) fn write(
+        &self,
+        message: &mut [u8],
+        asked: Option<&ffi::Edns>,
+        code: u16,
+        block: u16,
+        state: &mut ffi::Writer,
+    ) -> Result<(), Error> {
+        let Edns { max_payload, version, dnssec_ok, options } = *self;
+        match asked {
+            Some(asked) => ffi::writer_reply_edns(message, asked, max_payload, options, block, state),
+            None => {
+                let high = (code >> 4) as u8;
+                ffi::writer_edns(message, 0, max_payload, high, version, dnssec_ok, options, block, state)
+            }
+        }
     }
 
     /// Returns the options, each a code and its octets. [`EdnsOption`](crate::EdnsOption) prints one.

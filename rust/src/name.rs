@@ -1,9 +1,7 @@
 //! Names that own their wire form.
-use crate::error::{Error, ErrorKind, TextFault};
 use crate::ffi::{self, FORM_SIZE, SORT_KEY_SIZE};
-use crate::form;
-use crate::labels::Labels;
-use crate::IpAddr;
+use crate::form::{self, VALID};
+use crate::{Error, ErrorKind, IpAddr, Labels, TextFault, TextRule};
 use alloc::boxed::Box;
 use alloc::vec::Vec;
 use core::cmp::Ordering;
@@ -42,9 +40,6 @@ enum Form {
     Inline { is_fqdn: bool, len: u8, octets: [u8; INLINE_SIZE] },
     Boxed { is_fqdn: bool, octets: Box<[u8]> },
 }
-
-/// Why `expect` never fails: every `Name` but the empty ones was made by the C library.
-const VALID: &str = "the wire form of a name";
 
 impl Name {
     /// Returns the relative name without labels.
@@ -133,7 +128,7 @@ impl Name {
     #[inline]
     pub fn read(message: &[u8], start: usize) -> Result<(Self, usize), Error> {
         let mut form = [0; FORM_SIZE];
-        let read = ffi::read(message, start, &mut form)?;
+        let read = ffi::name_read(message, start, &mut form).map_err(|error| error.at_offset(start))?;
         Ok((Name::of_form(&form, read.len, true), read.end))
     }
 
@@ -208,7 +203,9 @@ impl Name {
     #[inline]
     pub fn from_text(text: &str, origin: Option<&Name>) -> Result<Self, Error> {
         let mut form = [0; FORM_SIZE];
-        let parsed = ffi::parse(text, origin.map_or(Ok(&[][..]), Name::whole_wire)?, &mut form)?;
+        let origin = origin.map_or(Ok(&[][..]), Name::whole_wire)?;
+        let parsed = ffi::name_parse(text.as_bytes(), origin, &mut form)
+            .map_err(|error| fault(text, origin).map_or(error, |fault| error.at_fault(fault)))?;
         Ok(Name::of_form(&form, parsed.len, parsed.is_fqdn))
     }
 
@@ -221,7 +218,7 @@ impl Name {
     /// assert_eq!(Name::text_fault("a..bc"), Some(TextFault { offset: 2, rule: TextRule::EmptyLabel }));
     /// ```
     pub fn text_fault(text: &str) -> Option<TextFault> {
-        ffi::text_fault(text, &[])
+        fault(text, &[])
     }
 
     /// Returns the fully qualified name with these labels, each of any 1 to 63 octets.
@@ -260,6 +257,12 @@ impl Name {
             Form::Inline { len, octets, .. } => &octets[..usize::from(*len)],
             Form::Boxed { octets, .. } => octets,
         }
+    }
+
+    /// Calls a function with the wire form of the labels.
+    #[inline]
+    fn with_labels<T>(&self, use_form: impl FnOnce(&[u8]) -> T) -> T {
+        use_form(self.as_wire())
     }
 
     /// Returns the wire form, or fails with `RelativeName`.
@@ -365,7 +368,7 @@ impl Name {
     /// # Ok::<(), dns_names_wire::Error>(())
     /// ```
     pub fn zone_of(&self, name: &Name) -> bool {
-        ffi::in_zone(name.as_wire(), self.as_wire()).expect(VALID)
+        ffi::name_in_zone(name.as_wire(), self.as_wire()).expect(VALID)
     }
 
     /// Returns whether the labels are equal, ignoring case and whether the names are fully qualified.
@@ -396,7 +399,7 @@ impl Name {
     /// ```
     pub fn sort_key(&self) -> Vec<u8> {
         let mut room = [0; SORT_KEY_SIZE];
-        let len = ffi::sort_key(self.as_wire(), &mut room).expect(VALID);
+        let len = ffi::name_sort_key(self.as_wire(), &mut room).expect(VALID);
         room[..len].to_vec()
     }
 
@@ -409,7 +412,7 @@ impl Name {
     /// # Ok::<(), dns_names_wire::Error>(())
     /// ```
     pub fn to_lowercase(&self) -> Name {
-        Name::made(self.is_fqdn(), |form| ffi::to_lowercase(self.as_wire(), form)).expect(VALID)
+        Name::made(self.is_fqdn(), |form| ffi::name_to_lowercase(self.as_wire(), form)).expect(VALID)
     }
 
     /// Returns the name with the labels of another name after its own. It is fully qualified if the other is.
@@ -426,7 +429,7 @@ impl Name {
     /// # Ok::<(), dns_names_wire::Error>(())
     /// ```
     pub fn append(&self, suffix: &Name) -> Result<Name, Error> {
-        Name::made(suffix.is_fqdn(), |form| ffi::append(self.as_wire(), suffix.as_wire(), form))
+        Name::made(suffix.is_fqdn(), |form| ffi::name_append(self.as_wire(), suffix.as_wire(), form))
     }
 
     /// Returns the name with a label, of any octets, before its own labels.
@@ -442,7 +445,7 @@ impl Name {
     /// # Ok::<(), dns_names_wire::Error>(())
     /// ```
     pub fn prepend_label(&self, label: &[u8]) -> Result<Name, Error> {
-        Name::made(self.is_fqdn(), |form| ffi::prepend_label(label, self.as_wire(), form))
+        Name::made(self.is_fqdn(), |form| ffi::name_prepend_label(label, self.as_wire(), form))
     }
 
     /// Returns the name with only the last `labels` labels, or the whole name if it has fewer.
@@ -453,7 +456,7 @@ impl Name {
     /// # Ok::<(), dns_names_wire::Error>(())
     /// ```
     pub fn trim_to(&self, labels: usize) -> Name {
-        Name::made(self.is_fqdn(), |form| ffi::trim(self.as_wire(), labels, form)).expect(VALID)
+        Name::made(self.is_fqdn(), |form| ffi::name_trim(self.as_wire(), labels, form)).expect(VALID)
     }
 
     /// Returns the name without its first label: its parent. A name without labels is unchanged.
@@ -478,7 +481,7 @@ impl Name {
     /// # Ok::<(), dns_names_wire::Error>(())
     /// ```
     pub fn to_wildcard(&self) -> Name {
-        Name::made(self.is_fqdn(), |form| ffi::to_wildcard(self.as_wire(), form)).expect(VALID)
+        Name::made(self.is_fqdn(), |form| ffi::name_to_wildcard(self.as_wire(), form)).expect(VALID)
     }
 
     /// Returns the net of a reverse name: its address and the length of its prefix in bits. For the reverse name of an
@@ -507,6 +510,12 @@ impl Name {
             Err(_) => Ok((room.into(), net.prefix_len)),
         }
     }
+}
+
+/// Returns where a text is not that of a name.
+fn fault(text: &str, origin: &[u8]) -> Option<TextFault> {
+    let (number, offset) = ffi::name_text_fault(text.as_bytes(), origin);
+    TextRule::from_number(number).map(|rule| TextFault { offset, rule })
 }
 
 /// Sorts names as `names.sort()` does, but in one call of the C library, which is faster for many names.
@@ -586,46 +595,4 @@ impl<'a> IntoIterator for &'a Name {
     }
 }
 
-/// Prints the name in ASCII (RFC 1035, section 5.1), with a last dot if it is fully qualified. The root is `.`, and
-/// [`Name::new`] is `@`. [`Name::from_text`], without an origin, reads the text as the same name.
-///
-/// `"`, `$`, `(`, `)`, `.`, `;`, `@` and `\` are printed after a backslash, and octets that are not printable ASCII as
-/// a backslash and three decimal digits.
-impl fmt::Display for Name {
-    fn fmt(&self, f: &mut fmt::Formatter<'_>) -> fmt::Result {
-        form::show(self.as_wire(), self.is_fqdn(), f)
-    }
-}
-
-impl fmt::Debug for Name {
-    fn fmt(&self, f: &mut fmt::Formatter<'_>) -> fmt::Result {
-        form::show_debug(self.as_wire(), self.is_fqdn(), f)
-    }
-}
-
-impl PartialEq for Name {
-    fn eq(&self, other: &Self) -> bool {
-        self.is_fqdn() == other.is_fqdn() && self.eq_ignore_root(other)
-    }
-}
-
-impl Eq for Name {}
-
-impl PartialOrd for Name {
-    fn partial_cmp(&self, other: &Self) -> Option<Ordering> {
-        Some(self.cmp(other))
-    }
-}
-
-impl Ord for Name {
-    fn cmp(&self, other: &Self) -> Ordering {
-        let labels = || form::compare(self.as_wire(), other.as_wire());
-        self.is_fqdn().cmp(&other.is_fqdn()).then_with(labels)
-    }
-}
-
-impl Hash for Name {
-    fn hash<H: Hasher>(&self, state: &mut H) {
-        form::hash(self.as_wire(), self.is_fqdn(), state);
-    }
-}
+form::name_traits!(Name);

@@ -1,10 +1,9 @@
 //! Names that are borrowed from a message.
-use crate::error::{Error, ErrorKind};
 use crate::ffi::{self, FORM_SIZE};
 use crate::form;
-use crate::labels::Labels;
-use crate::name::Name;
+use crate::items::consecutive;
 use crate::octets::Sink;
+use crate::{Error, ErrorKind, Labels, Name};
 use alloc::vec::Vec;
 use core::cmp::Ordering;
 use core::fmt;
@@ -51,7 +50,7 @@ impl<'a> NameRef<'a> {
     /// # Ok::<(), Error>(())
     /// ```
     pub fn read(message: &'a [u8], start: usize) -> Result<Self, Error> {
-        let read = ffi::read(message, start, &mut [0; FORM_SIZE])?;
+        let read = ffi::name_read(message, start, &mut [0; FORM_SIZE]).map_err(|error| error.at_offset(start))?;
         Ok(NameRef::with_len(message, start, read.end, read.len))
     }
 
@@ -84,7 +83,7 @@ impl<'a> NameRef<'a> {
             return use_form(&self.message[self.start..self.end()]);
         }
         let mut form = [0; FORM_SIZE];
-        let read = ffi::read(self.message, self.start, &mut form).expect("a name that was read before");
+        let read = ffi::name_read(self.message, self.start, &mut form).expect("a name that was read before");
         use_form(&form[..read.len])
     }
 
@@ -179,18 +178,6 @@ impl<'a> NameRef<'a> {
     }
 }
 
-impl fmt::Display for NameRef<'_> {
-    fn fmt(&self, f: &mut fmt::Formatter<'_>) -> fmt::Result {
-        self.with_labels(|form| form::show(form, self.is_fqdn, f))
-    }
-}
-
-impl fmt::Debug for NameRef<'_> {
-    fn fmt(&self, f: &mut fmt::Formatter<'_>) -> fmt::Result {
-        self.with_labels(|form| form::show_debug(form, self.is_fqdn, f))
-    }
-}
-
 impl From<NameRef<'_>> for Name {
     fn from(name: NameRef<'_>) -> Name {
         name.to_name()
@@ -204,15 +191,6 @@ impl<'a> From<&'a Name> for NameRef<'a> {
         NameRef { is_fqdn: name.is_fqdn(), ..NameRef::with_len(form, 0, form.len(), form.len()) }
     }
 }
-
-/// Compares as names do: labels, ignoring case, and whether they are fully qualified. The messages may differ.
-impl PartialEq for NameRef<'_> {
-    fn eq(&self, other: &Self) -> bool {
-        self.is_fqdn == other.is_fqdn && self.with_labels(|own| other.with_labels(|form| form::are_equal(own, form)))
-    }
-}
-
-impl Eq for NameRef<'_> {}
 
 impl PartialEq<Name> for NameRef<'_> {
     fn eq(&self, other: &Name) -> bool {
@@ -230,52 +208,26 @@ impl<'a> IntoIterator for &NameRef<'a> {
     }
 }
 
-impl PartialOrd for NameRef<'_> {
-    fn partial_cmp(&self, other: &Self) -> Option<Ordering> {
-        Some(self.cmp(other))
-    }
-}
+form::name_traits!(NameRef<'_>);
 
-impl Ord for NameRef<'_> {
-    fn cmp(&self, other: &Self) -> Ordering {
-        let labels = || self.with_labels(|own| other.with_labels(|form| form::compare(own, form)));
-        self.is_fqdn.cmp(&other.is_fqdn).then_with(labels)
-    }
-}
-
-impl Hash for NameRef<'_> {
-    fn hash<H: Hasher>(&self, state: &mut H) {
-        self.with_labels(|own| form::hash(own, self.is_fqdn, state));
-    }
-}
-
-/// An iterator over consecutive names in a message. See [`names`].
-///
-/// ```
-/// let mut names = dns_names_wire::names(b"\x01b\0\x01a\xC0\0", 0);
-/// assert_eq!(names.by_ref().count(), 2);
-/// assert!(names.next().is_none());
-/// ```
-#[derive(Clone, Debug)]
-pub struct Names<'a> {
-    message: &'a [u8],
-    offset: usize,
-    has_failed: bool,
-}
-
-/// Returns an iterator over the consecutive names in a message, from an offset to the end. It ends after an error.
-///
-/// ```
-/// use dns_names_wire::names;
-///
-/// let texts: Vec<String> = names(b"\x01b\0\x01a\xC0\0\0", 0).map(|name| name.unwrap().to_string()).collect();
-/// assert_eq!(texts, ["b.", "a.b.", "."]);
-/// ```
-pub fn names(message: &[u8], start: usize) -> Names<'_> {
-    Names { message, offset: start, has_failed: false }
-}
-
-impl Names<'_> {
+consecutive! {
+    /// An iterator over consecutive names in a message. See [`names`].
+    ///
+    /// ```
+    /// let mut names = dns_names_wire::names(b"\x01b\0\x01a\xC0\0", 0);
+    /// assert_eq!(names.by_ref().count(), 2);
+    /// assert!(names.next().is_none());
+    /// ```
+    Names: NameRef;
+    /// Returns an iterator over the consecutive names in a message, from an offset to the end. It ends after an error.
+    ///
+    /// ```
+    /// use dns_names_wire::names;
+    ///
+    /// let texts: Vec<String> = names(b"\x01b\0\x01a\xC0\0\0", 0).map(|name| name.unwrap().to_string()).collect();
+    /// assert_eq!(texts, ["b.", "a.b.", "."]);
+    /// ```
+    names;
     /// Returns the offset in the message of the next name, or after an error the offset at which no valid name begins.
     ///
     /// ```
@@ -283,25 +235,5 @@ impl Names<'_> {
     /// assert!(names.next().unwrap().is_ok() && names.next().unwrap().is_err());
     /// assert_eq!(names.offset(), 3);
     /// ```
-    pub fn offset(&self) -> usize {
-        self.offset
-    }
+    offset
 }
-
-impl<'a> Iterator for Names<'a> {
-    type Item = Result<NameRef<'a>, Error>;
-
-    fn next(&mut self) -> Option<Self::Item> {
-        if self.has_failed || self.offset == self.message.len() {
-            return None;
-        }
-        let name = NameRef::read(self.message, self.offset);
-        match &name {
-            Ok(name) => self.offset = name.end(),
-            Err(_) => self.has_failed = true,
-        }
-        Some(name)
-    }
-}
-
-impl core::iter::FusedIterator for Names<'_> {}

@@ -1,4 +1,5 @@
 //! Where octets are put together, and how they are shown.
+use crate::{Error, ErrorKind};
 use alloc::vec::Vec;
 use core::fmt;
 
@@ -13,6 +14,24 @@ impl Sink for Vec<u8> {
     fn extend_from_slice(&mut self, octets: &[u8]) {
         self.extend_from_slice(octets);
     }
+}
+
+/// Appends what a function appends, after two octets of its length. If it fails, nothing is appended.
+pub(crate) fn put_counted<F>(octets: &mut Vec<u8>, put: F) -> Result<(), Error>
+where
+    F: FnOnce(&mut Vec<u8>) -> Result<(), Error>,
+{
+    let start = octets.len();
+    octets.extend_from_slice(&[0; 2]);
+    let put = put(octets).and_then(|()| {
+        let len = u16::try_from(octets.len() - start - 2).map_err(|_| ErrorKind::DataTooLong)?;
+        octets[start..start + 2].copy_from_slice(&len.to_be_bytes());
+        Ok(())
+    });
+    if put.is_err() {
+        octets.truncate(start);
+    }
+    put
 }
 
 /// How many octets are put together on the stack.
@@ -58,6 +77,17 @@ impl Sink for Room {
         }
     }
 }
+
+/// What a value of a kind is shown by: octets by themselves are shown as text.
+#[rustfmt::skip]
+macro_rules! shown {
+    (string $value:expr) => { &Octets($value) };
+    (rest $value:expr) => { &Octets($value) };
+    (long $value:expr) => { &Octets($value) };
+    ($kind:ident $value:expr) => { $value };
+}
+
+pub(crate) use shown;
 
 /// Octets that are shown as text if they are printable ASCII, and in hexadecimal otherwise.
 pub(crate) struct Octets<'a>(pub(crate) &'a [u8]);

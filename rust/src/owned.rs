@@ -11,112 +11,12 @@
 //! assert_eq!(owned::RData::try_from(record.as_record())?, owned::RData::MX(mail));
 //! # Ok::<(), dns_names_wire::Error>(())
 //! ```
-use crate::codes::RecordType;
-use crate::error::Error;
-use crate::field::{self, Prefix};
-use crate::name::Name;
-use crate::name_ref::NameRef;
-use crate::rdata::{self, each_own_struct, each_struct, each_variant};
-use crate::record::Record;
-use crate::type_set::TypeSet;
-use crate::{ErrorKind, IpAddr, Ipv4Addr, Ipv6Addr};
+use crate::field;
+use crate::rdata::{self, each_own_struct, each_struct, each_variant, from_value};
+use crate::value::Value;
+use crate::{Error, ErrorKind, IpAddr, Ipv4Addr, Ipv6Addr, Name, NameRef, Prefix, Record, RecordType, TypeSet};
 use alloc::vec::Vec;
 use core::fmt;
-
-/// The type of an owned value, by its kind.
-#[rustfmt::skip]
-macro_rules! owned {
-    (name) => { Name };
-    (u8) => { u8 };
-    (u16) => { u16 };
-    (u32) => { u32 };
-    (u48) => { u64 };
-    (u64) => { u64 };
-    (eui48) => { [u8; 6] };
-    (eui64) => { [u8; 8] };
-    (ipv4) => { Ipv4Addr };
-    (ipv6) => { Ipv6Addr };
-    (record_type) => { RecordType };
-    (string) => { Vec<u8> };
-    (counted) => { Vec<u8> };
-    (rest) => { Vec<u8> };
-    (long) => { Vec<u8> };
-    (shaped) => { Vec<u8> };
-    (texts) => { Texts };
-    (types) => { TypeSet };
-    (params) => { Pairs };
-    (prefixes) => { Prefixes };
-    (whole_names) => { WholeNames };
-}
-
-/// A borrowed value that can be owned.
-trait Own {
-    type Owned;
-
-    fn own(self) -> Self::Owned;
-}
-
-/// An owned value that can be borrowed.
-trait Lend<'a> {
-    type Lent;
-
-    fn lend(&'a self) -> Self::Lent;
-}
-
-/// Values that are the same in both forms.
-macro_rules! same {
-    ($($same:ty),*) => {$(
-        impl Own for $same {
-            type Owned = $same;
-
-            fn own(self) -> $same {
-                self
-            }
-        }
-
-        impl Lend<'_> for $same {
-            type Lent = $same;
-
-            fn lend(&self) -> $same {
-                self.clone()
-            }
-        }
-    )*};
-}
-
-same!(u8, u16, u32, u64, [u8; 6], [u8; 8], Ipv4Addr, Ipv6Addr, RecordType, TypeSet);
-
-impl Own for NameRef<'_> {
-    type Owned = Name;
-
-    fn own(self) -> Name {
-        self.to_name()
-    }
-}
-
-impl<'a> Lend<'a> for Name {
-    type Lent = NameRef<'a>;
-
-    fn lend(&'a self) -> NameRef<'a> {
-        self.into()
-    }
-}
-
-impl Own for &[u8] {
-    type Owned = Vec<u8>;
-
-    fn own(self) -> Vec<u8> {
-        self.to_vec()
-    }
-}
-
-impl<'a> Lend<'a> for Vec<u8> {
-    type Lent = &'a [u8];
-
-    fn lend(&'a self) -> &'a [u8] {
-        self
-    }
-}
 
 /// Defines the owned lists. Each has its octets, and its borrowed form is the iterator over it.
 macro_rules! lists {
@@ -126,6 +26,11 @@ macro_rules! lists {
         pub struct $name(Vec<u8>);
 
         impl $name {
+            /// Returns the list with octets that were checked.
+            pub(crate) fn checked(octets: Vec<u8>) -> Self {
+                $name(octets)
+            }
+
             /// Returns an iterator over the items, which borrow from the list.
             pub fn iter(&self) -> field::$name<'_> {
                 field::$name::checked(&self.0)
@@ -152,19 +57,10 @@ macro_rules! lists {
             }
         }
 
-        impl Own for field::$name<'_> {
-            type Owned = $name;
-
-            fn own(self) -> $name {
-                $name(self.left().to_vec())
-            }
-        }
-
-        impl<'a> Lend<'a> for $name {
-            type Lent = field::$name<'a>;
-
-            fn lend(&'a self) -> field::$name<'a> {
-                self.iter()
+        /// The same as [`as_wire`](Self::as_wire).
+        impl AsRef<[u8]> for $name {
+            fn as_ref(&self) -> &[u8] {
+                &self.0
             }
         }
 
@@ -316,12 +212,12 @@ impl WholeNames {
 /// Defines the structs.
 macro_rules! structs {
     ($($(#[$doc:meta])* $name:ident $(<$life:lifetime>)? {
-        $($(#[$field_doc:meta])* $field:ident: $type:ty = $kind:ident,)*
+        $($(#[$field_doc:meta])* $field:ident: $type:ty, $owned:ty = $kind:ident,)*
     })*) => {$(
         $(#[$doc])*
         #[derive(Clone, PartialEq, Eq, Hash)]
         pub struct $name {
-            $($(#[$field_doc])* pub $field: owned!($kind),)*
+            $($(#[$field_doc])* pub $field: $owned,)*
         }
 
         impl$(<$life>)? From<rdata::$name $(<$life>)?> for $name {
@@ -332,7 +228,7 @@ macro_rules! structs {
 
         impl<'a> From<&'a $name> for rdata::$name $(<$life>)? {
             fn from(data: &'a $name) -> Self {
-                rdata::$name { $($field: data.$field.lend(),)* }
+                rdata::$name { $($field: Value::lend(&data.$field),)* }
             }
         }
 
@@ -349,7 +245,7 @@ each_struct!(structs);
 /// Defines `RData`.
 macro_rules! variants {
     (
-        one { $($(#[$doc:meta])* $name:ident = $code:literal: $type:ty = $kind:ident,)* }
+        one { $($(#[$doc:meta])* $name:ident = $code:literal: $type:ty, $owned:ty = $kind:ident,)* }
         several { $($(#[$other_doc:meta])* $other:ident = $other_code:literal: $struct:ident $(<$life:lifetime>)?,)* }
     ) => {
         /// The data of a record, by its type, with names and octets of their own. [`crate::RData`] is the borrowed form.
@@ -366,7 +262,7 @@ macro_rules! variants {
         #[derive(Clone, PartialEq, Eq, Hash)]
         #[non_exhaustive]
         pub enum RData {
-            $($(#[$doc])* $name(owned!($kind)),)*
+            $($(#[$doc])* $name($owned),)*
             $($(#[$other_doc])* $other($struct),)*
             /// Data of any other type.
             Unknown {
@@ -392,7 +288,7 @@ macro_rules! variants {
         impl<'a> From<&'a RData> for crate::RData<'a> {
             fn from(data: &'a RData) -> Self {
                 match data {
-                    $(RData::$name(value) => crate::RData::$name(value.lend()),)*
+                    $(RData::$name(value) => crate::RData::$name(Value::lend(value)),)*
                     $(RData::$other(value) => crate::RData::$other(value.into()),)*
                     RData::Unknown { record_type, octets } => {
                         crate::RData::Unknown { record_type: *record_type, octets }
@@ -471,44 +367,16 @@ impl From<IpAddr> for RData {
     }
 }
 
-impl From<Ipv4Addr> for RData {
-    fn from(address: Ipv4Addr) -> Self {
-        RData::A(address)
-    }
-}
-
-impl From<Ipv6Addr> for RData {
-    fn from(address: Ipv6Addr) -> Self {
-        RData::AAAA(address)
-    }
-}
-
 macro_rules! from_struct {
-    ($($name:ident $(<$life:lifetime>)?,)*) => {$(
-        impl From<$name> for RData {
-            fn from(data: $name) -> Self {
-                RData::$name(data)
-            }
-        }
+    ($($name:ident $(<$life:lifetime>)?,)*) => {
+        from_value! { RData; A: Ipv4Addr, AAAA: Ipv6Addr, $($name: $name,)* }
 
-        impl<'a> From<&'a $name> for crate::RData<'a> {
+        $(impl<'a> From<&'a $name> for crate::RData<'a> {
             fn from(data: &'a $name) -> Self {
                 crate::RData::$name(data.into())
             }
-        }
-
-        /// Returns data of another type as the error.
-        impl TryFrom<RData> for $name {
-            type Error = RData;
-
-            fn try_from(data: RData) -> Result<Self, RData> {
-                match data {
-                    RData::$name(data) => Ok(data),
-                    other => Err(other),
-                }
-            }
-        }
-    )*};
+        })*
+    };
 }
 
 each_own_struct!(from_struct);

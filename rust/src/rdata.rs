@@ -3,17 +3,29 @@
 //! [`RData`] is what [`Record::data`] returns and what [`RecordBuf::new`] takes. The module [`owned`] has the same types
 //! with data of their own.
 //!
+//! ```
+//! use dns_names_wire::rdata::{MX, SRV};
+//! use dns_names_wire::{Name, RData, RecordBuf};
+//!
+//! let host: Name = "mail.example.".parse()?;
+//! let data = RData::from(MX { preference: 10, exchange: (&host).into() });
+//! assert_eq!(data.to_string(), "10 mail.example.");
+//! let record: RecordBuf = "_sip._udp.example. 60 IN SRV 1 2 5060 sip.example.".parse()?;
+//! let SRV { port, target, .. } = record.data()?.try_into().unwrap();
+//! assert_eq!((port, target.to_string()), (5060, "sip.example.".into()));
+//! # Ok::<(), dns_names_wire::Error>(())
+//! ```
+//!
 //! [`Record::data`]: crate::Record::data
 //! [`RecordBuf::new`]: crate::RecordBuf::new
 //! [`owned`]: crate::owned
-use crate::codes::{Class, RecordType};
-use crate::error::Error;
-use crate::field::{put, Fields, Pairs, Prefixes, Texts, WholeNames};
-use crate::name_ref::NameRef;
-use crate::octets::{Octets, Sink};
+use crate::octets::{shown, Octets, Sink};
 use crate::record_buf::data_text;
-use crate::type_set::TypeSet;
-use crate::{owned, IpAddr, Ipv4Addr, Ipv6Addr};
+use crate::value::{put_long, put_string, put_u48, Value};
+use crate::{
+    owned, Class, Error, Fields, IpAddr, Ipv4Addr, Ipv6Addr, NameRef, Pairs, Prefixes, RecordType, Texts, TypeSet,
+    WholeNames,
+};
 use alloc::vec::Vec;
 use core::fmt;
 
@@ -21,32 +33,19 @@ mod table;
 
 pub(crate) use table::{each_own_struct, each_struct, each_variant};
 
-/// What a value of a kind is shown by: octets by themselves are shown as text.
-macro_rules! shown {
-    (string $value:expr) => {
-        &Octets($value)
-    };
-    (counted $value:expr) => {
-        &Octets($value)
-    };
-    (rest $value:expr) => {
-        &Octets($value)
-    };
-    (long $value:expr) => {
-        &Octets($value)
-    };
-    (shaped $value:expr) => {
-        &Octets($value)
-    };
-    ($kind:ident $value:expr) => {
-        $value
-    };
+/// Appends a value of a kind.
+#[rustfmt::skip]
+macro_rules! put {
+    (string $octets:ident $value:expr) => { put_string($octets, $value) };
+    (long $octets:ident $value:expr) => { put_long($octets, $value) };
+    (u48 $octets:ident $value:expr) => { put_u48($octets, $value) };
+    ($kind:ident $octets:ident $value:expr) => { Value::put($value, $octets) };
 }
 
 /// Defines the structs. Each field is read, written and shown by its kind.
 macro_rules! structs {
     ($($(#[$doc:meta])* $name:ident $(<$life:lifetime>)? {
-        $($(#[$field_doc:meta])* $field:ident: $type:ty = $kind:ident,)*
+        $($(#[$field_doc:meta])* $field:ident: $type:ty, $owned:ty = $kind:ident,)*
     })*) => {$(
         $(#[$doc])*
         #[derive(Clone, PartialEq, Eq)]
@@ -62,11 +61,11 @@ macro_rules! structs {
 
         impl<'a> $name $(<$life>)? {
             fn take(fields: &mut Fields<'a>) -> Result<Self, Error> {
-                Ok($name { $($field: fields.$kind()?,)* })
+                Ok($name { $($field: fields.value()?,)* })
             }
 
             fn put(&self, octets: &mut impl Sink) -> Result<(), Error> {
-                $(put::$kind(octets, &self.$field)?;)*
+                $(put!($kind octets &self.$field)?;)*
                 Ok(())
             }
         }
@@ -78,7 +77,7 @@ each_struct!(structs);
 /// Defines `RData`: a variant for each type, with its code, which has one value of a kind or a struct.
 macro_rules! variants {
     (
-        one { $($(#[$doc:meta])* $name:ident = $code:literal: $type:ty = $kind:ident,)* }
+        one { $($(#[$doc:meta])* $name:ident = $code:literal: $type:ty, $owned:ty = $kind:ident,)* }
         several { $($(#[$other_doc:meta])* $other:ident = $other_code:literal: $struct:ident $(<$life:lifetime>)?,)* }
     ) => {
         /// The data of a record, by its type. Names and octets are borrowed, from a message that was read or from the
@@ -133,7 +132,7 @@ macro_rules! variants {
                 }
                 match record_type.code() {
                     $($code => {
-                        let value = fields.$kind()?;
+                        let value = fields.value()?;
                         fields.end()?;
                         Ok(RData::$name(value))
                     })*
@@ -150,9 +149,9 @@ macro_rules! variants {
             /// Appends the octets, without compression.
             pub(crate) fn put(&self, octets: &mut impl Sink) -> Result<(), Error> {
                 match self {
-                    $(RData::$name(value) => put::$kind(octets, value),)*
+                    $(RData::$name(value) => put!($kind octets value),)*
                     $(RData::$other(value) => value.put(octets),)*
-                    RData::Unknown { octets: own, .. } => put::rest(octets, own),
+                    RData::Unknown { octets: own, .. } => Value::put(own, octets),
                 }
             }
         }
@@ -239,18 +238,6 @@ impl fmt::Display for RData<'_> {
     }
 }
 
-impl From<Ipv4Addr> for RData<'_> {
-    fn from(address: Ipv4Addr) -> Self {
-        RData::A(address)
-    }
-}
-
-impl From<Ipv6Addr> for RData<'_> {
-    fn from(address: Ipv6Addr) -> Self {
-        RData::AAAA(address)
-    }
-}
-
 impl From<IpAddr> for RData<'_> {
     fn from(address: IpAddr) -> Self {
         match address {
@@ -269,43 +256,20 @@ impl<'a> TryFrom<RData<'a>> for IpAddr {
     }
 }
 
-/// Returns data of another type as the error.
-impl<'a> TryFrom<RData<'a>> for Ipv4Addr {
-    type Error = RData<'a>;
-
-    fn try_from(data: RData<'a>) -> Result<Ipv4Addr, RData<'a>> {
-        match data {
-            RData::A(address) => Ok(address),
-            other => Err(other),
-        }
-    }
-}
-
-/// Returns data of another type as the error.
-impl<'a> TryFrom<RData<'a>> for Ipv6Addr {
-    type Error = RData<'a>;
-
-    fn try_from(data: RData<'a>) -> Result<Ipv6Addr, RData<'a>> {
-        match data {
-            RData::AAAA(address) => Ok(address),
-            other => Err(other),
-        }
-    }
-}
-
-macro_rules! from_struct {
-    ($($name:ident $(<$life:lifetime>)?,)*) => {$(
-        impl<'a> From<$name $(<$life>)?> for RData<'a> {
-            fn from(data: $name $(<$life>)?) -> Self {
+/// Implements the conversions between `RData`, borrowed or owned, and the values of its variants.
+macro_rules! from_value {
+    ($data:ty; $($name:ident: $value:ty,)*) => {$(
+        impl<'a> From<$value> for $data {
+            fn from(data: $value) -> Self {
                 RData::$name(data)
             }
         }
 
         /// Returns data of another type as the error.
-        impl<'a> TryFrom<RData<'a>> for $name $(<$life>)? {
-            type Error = RData<'a>;
+        impl<'a> TryFrom<$data> for $value {
+            type Error = $data;
 
-            fn try_from(data: RData<'a>) -> Result<Self, RData<'a>> {
+            fn try_from(data: $data) -> Result<Self, $data> {
                 match data {
                     RData::$name(data) => Ok(data),
                     other => Err(other),
@@ -313,6 +277,14 @@ macro_rules! from_struct {
             }
         }
     )*};
+}
+
+pub(crate) use from_value;
+
+macro_rules! from_struct {
+    ($($name:ident $(<$life:lifetime>)?,)*) => {
+        from_value! { RData<'a>; A: Ipv4Addr, AAAA: Ipv6Addr, $($name: $name $(<$life>)?,)* }
+    };
 }
 
 each_own_struct!(from_struct);

@@ -1,12 +1,9 @@
 //! The records of messages.
-use crate::codes::{Class, RecordType};
-use crate::error::{Error, ErrorKind};
 use crate::ffi::{self, FORM_SIZE};
-use crate::field::Fields;
-use crate::name::Name;
-use crate::name_ref::NameRef;
-use crate::rdata::RData;
+use crate::items::consecutive;
 use crate::record_buf::put_record;
+use crate::{Class, Error, ErrorKind, Fields, Name, NameRef, RData, RecordType};
+use alloc::string::String;
 use alloc::vec::Vec;
 use core::cmp::Ordering;
 use core::fmt;
@@ -58,21 +55,20 @@ impl<'a> Record<'a> {
     /// # Ok::<(), Error>(())
     /// ```
     pub fn read(message: &'a [u8], start: usize) -> Result<Self, Error> {
-        let read = ffi::read_record(message, start, &mut [0; FORM_SIZE])?;
+        let read = ffi::record_read(message, start, &mut [0; FORM_SIZE]).map_err(|error| error.at_offset(start))?;
         let owner = NameRef::with_len(message, start, read.data_offset - FIXED_SIZE, read.owner_len);
         let (record_type, class) = (read.record_type, read.record_class);
         Ok(Record { owner, record_type, class, ttl: read.ttl, end: read.end })
     }
 
+    /// Returns the record itself.
+    fn as_record(&self) -> Self {
+        *self
+    }
+
     /// Returns the message, and the offset of the record there.
     pub(crate) fn place(&self) -> (&'a [u8], usize) {
         (self.message(), self.owner.start())
-    }
-
-    /// Returns the record at an offset of a message that was checked as a whole.
-    #[inline]
-    pub(crate) fn checked(message: &'a [u8], start: usize) -> Option<Self> {
-        Record::read(message, start).ok()
     }
 
     /// Returns the record with these octets, of which no name is compressed, and whose owner ends at an offset.
@@ -224,8 +220,9 @@ impl<'a> Record<'a> {
     pub fn data_name_after(&self, octets: usize) -> Result<Name, Error> {
         let cut = || Error::from(ErrorKind::MessageCut).at_offset(self.end);
         let left = (self.end - self.data_offset()).checked_sub(octets).ok_or_else(cut)?;
-        let mut form = [0; FORM_SIZE];
-        let len = ffi::data_name(self.message(), self.data_offset() + octets, left, &mut form)?;
+        let (start, mut form) = (self.data_offset() + octets, [0; FORM_SIZE]);
+        let len =
+            ffi::record_data_name(self.message(), start, left, &mut form).map_err(|error| error.at_offset(start))?;
         Ok(Name::of_form(&form, len, true))
     }
 
@@ -296,7 +293,7 @@ impl<'a> Record<'a> {
                 record.put(&mut list)?;
             }
         }
-        ffi::signed_octets(&list, start)
+        ffi::octets(list.len(), |room| ffi::signed_octets(&list, start, 0, room))
     }
 
     /// Returns the sort key of the record. Keys compare as bytes as records do in canonical order (RFC 4034, section 6):
@@ -314,7 +311,8 @@ impl<'a> Record<'a> {
     /// # Ok::<(), dns_names_wire::Error>(())
     /// ```
     pub fn sort_key(&self) -> Result<Vec<u8>, Error> {
-        ffi::record_sort_key(self.message(), self.owner.start(), self.raw_data().len())
+        let (message, start) = self.place();
+        ffi::octets(ffi::USUAL_SIZE, |room| ffi::record_sort_key(message, start, room))
     }
 
     /// Returns what records compare and hash by: the sort key, or, if the data are not the fields of their type, the
@@ -342,13 +340,20 @@ impl<'a> Record<'a> {
     }
 
     /// Stores the octets of the data, with each name in its wire form, and returns their number.
-    pub(crate) fn store_data(&self, room: &mut [u8]) -> Result<usize, Error> {
-        ffi::store_record_data(&self.message()[..self.end], self.owner.start(), room)
+    pub(crate) fn store_data<'b>(&self, room: impl Into<ffi::Buffer<'b>>) -> Result<usize, Error> {
+        let (message, start) = self.place();
+        ffi::record_data(&message[..self.end], start, room).map_err(|error| error.at_offset(start))
     }
 
     /// Appends the octets of the data, with each name in its wire form.
     pub(crate) fn put_data(&self, octets: &mut Vec<u8>) -> Result<(), Error> {
-        ffi::record_data(&self.message()[..self.end], self.owner.start(), octets)
+        ffi::append(octets, ffi::USUAL_SIZE, |room| self.store_data(room))
+    }
+
+    /// Returns the line of the record.
+    pub(crate) fn line(&self) -> Result<String, Error> {
+        let (message, start) = self.place();
+        ffi::text(ffi::USUAL_SIZE, |room| ffi::record_print(message, start, room).map(|it| it.len))
     }
 
     /// Returns the offset after the record, where the next one begins.
@@ -364,97 +369,97 @@ impl<'a> Record<'a> {
     }
 }
 
-/// Two records are equal if their owners, types, classes and data are (RFC 2136, section 1.1.1). The TTL makes no
-/// difference, and neither do compression and the case of the owner and of the names that canonical form lowers (RFC
-/// 4034, section 6.2).
-///
-/// ```
-/// use dns_names_wire::RecordBuf;
-/// use std::collections::BTreeSet;
-///
-/// let lines = ["b.a. 60 MX 1 c.a.", "a. 60 NS b.a.", "B.A. 5 MX 1 C.A.", "b.a. 60 A 192.0.2.1"];
-/// let records = lines.iter().map(|line| line.parse::<RecordBuf>()).collect::<Result<Vec<_>, _>>()?;
-/// assert_eq!(records[0], records[2]);
-/// let set: BTreeSet<_> = records.iter().collect();
-/// assert!(set.into_iter().eq([&records[1], &records[3], &records[0]]));
-/// # Ok::<(), dns_names_wire::Error>(())
-/// ```
-impl PartialEq for Record<'_> {
-    fn eq(&self, other: &Self) -> bool {
-        (self.record_type, self.class) == (other.record_type, other.class)
-            && self.owner == other.owner
-            && self.order_key() == other.order_key()
-    }
+/// Implements them for a record that `as_record` borrows.
+macro_rules! record_traits {
+    ($name:ident $([$life:lifetime])?) => {
+        /// Two records are equal if their owners, types, classes and data are (RFC 2136, section 1.1.1). The TTL makes no
+        /// difference, and neither do compression and the case of the owner and of the names that canonical form lowers (RFC
+        /// 4034, section 6.2).
+        ///
+        /// ```
+        /// use dns_names_wire::RecordBuf;
+        /// use std::collections::BTreeSet;
+        ///
+        /// let lines = ["b.a. 60 MX 1 c.a.", "a. 60 NS b.a.", "B.A. 5 MX 1 C.A.", "b.a. 60 A 192.0.2.1"];
+        /// let records = lines.iter().map(|line| line.parse::<RecordBuf>()).collect::<Result<Vec<_>, _>>()?;
+        /// assert_eq!(records[0], records[2]);
+        /// let set: BTreeSet<_> = records.iter().collect();
+        /// assert!(set.into_iter().eq([&records[1], &records[3], &records[0]]));
+        /// # Ok::<(), dns_names_wire::Error>(())
+        /// ```
+        impl PartialEq for $name $(<$life>)? {
+            fn eq(&self, other: &Self) -> bool {
+                let (own, other) = (self.as_record(), other.as_record());
+                (own.record_type(), own.class()) == (other.record_type(), other.class())
+                    && own.owner() == other.owner()
+                    && own.order_key() == other.order_key()
+            }
+        }
+
+        impl Eq for $name $(<$life>)? {}
+
+        impl PartialOrd for $name $(<$life>)? {
+            fn partial_cmp(&self, other: &Self) -> Option<Ordering> {
+                Some(self.cmp(other))
+            }
+        }
+
+        /// Canonical order (RFC 4034, section 6): by owner, type, class and data.
+        impl Ord for $name $(<$life>)? {
+            fn cmp(&self, other: &Self) -> Ordering {
+                self.as_record().order_key().cmp(&other.as_record().order_key())
+            }
+        }
+
+        impl Hash for $name $(<$life>)? {
+            fn hash<H: Hasher>(&self, state: &mut H) {
+                self.as_record().order_key().hash(state);
+            }
+        }
+
+        /// Prints a line of a master file, without its end (RFC 1035, section 5.1): the owner, the TTL, the class, the type and
+        /// the data, with a space between them. Data without a text of their own are printed as `\# 4 0A000001` (RFC 3597, section
+        /// 5). Escapes are decimal, as `\032`.
+        impl fmt::Display for $name $(<$life>)? {
+            fn fmt(&self, f: &mut fmt::Formatter<'_>) -> fmt::Result {
+                f.write_str(&self.as_record().line().map_err(|_| fmt::Error)?)
+            }
+        }
+
+        /// Prints the line, as `Display` does.
+        impl fmt::Debug for $name $(<$life>)? {
+            fn fmt(&self, f: &mut fmt::Formatter<'_>) -> fmt::Result {
+                f.debug_tuple(stringify!($name)).field(&format_args!("{self}")).finish()
+            }
+        }
+    };
 }
 
-impl Eq for Record<'_> {}
+pub(crate) use record_traits;
 
-impl PartialOrd for Record<'_> {
-    fn partial_cmp(&self, other: &Self) -> Option<Ordering> {
-        Some(self.cmp(other))
-    }
-}
+record_traits!(Record['_]);
 
-/// Canonical order (RFC 4034, section 6): by owner, type, class and data.
-impl Ord for Record<'_> {
-    fn cmp(&self, other: &Self) -> Ordering {
-        self.order_key().cmp(&other.order_key())
-    }
-}
-
-impl Hash for Record<'_> {
-    fn hash<H: Hasher>(&self, state: &mut H) {
-        self.order_key().hash(state);
-    }
-}
-
-/// Prints a line of a master file, without its end (RFC 1035, section 5.1): the owner, the TTL, the class, the type and
-/// the data, with a space between them. Data without a text of their own are printed as `\# 4 0A000001` (RFC 3597, section
-/// 5). Escapes are decimal, as `\032`.
-impl fmt::Display for Record<'_> {
-    fn fmt(&self, f: &mut fmt::Formatter<'_>) -> fmt::Result {
-        let mut line = Vec::new();
-        f.write_str(ffi::print_record(self.message(), self.owner.start(), &mut line).map_err(|_| fmt::Error)?)
-    }
-}
-
-/// Prints the line, as `Display` does.
-impl fmt::Debug for Record<'_> {
-    fn fmt(&self, f: &mut fmt::Formatter<'_>) -> fmt::Result {
-        f.debug_tuple("Record").field(&format_args!("{self}")).finish()
-    }
-}
-
-/// An iterator over consecutive records in a message. See [`records`].
-///
-/// ```
-/// let mut records = dns_names_wire::records(b"\0\0\x01\0\x01\0\0\0\0\0\0\x40", 0);
-/// assert!(records.next().unwrap().is_ok() && records.next().unwrap().is_err());
-/// assert!(records.next().is_none());
-/// ```
-#[derive(Clone, Debug)]
-pub struct Records<'a> {
-    message: &'a [u8],
-    offset: usize,
-    has_failed: bool,
-}
-
-/// Returns an iterator over the consecutive records in a message, from an offset to the end. It ends after an error.
-///
-/// ```
-/// use dns_names_wire::{records, Error, Name};
-///
-/// let message = b"\x12\x34\x84\0\0\x01\0\x01\0\0\0\0\x01b\0\0\x01\0\x01\xC0\x0C\0\x01\0\x01\0\0\0\0\0\x04\xC0\0\x02\x01";
-/// let (_question, end) = Name::read(message, 12)?;
-/// let data: Result<Vec<&[u8]>, Error> = records(message, end + 4).map(|record| Ok(record?.raw_data())).collect();
-/// assert_eq!(data?, [[192, 0, 2, 1]]);
-/// # Ok::<(), Error>(())
-/// ```
-pub fn records(message: &[u8], start: usize) -> Records<'_> {
-    Records { message, offset: start, has_failed: false }
-}
-
-impl Records<'_> {
+consecutive! {
+    /// An iterator over consecutive records in a message. See [`records`].
+    ///
+    /// ```
+    /// let mut records = dns_names_wire::records(b"\0\0\x01\0\x01\0\0\0\0\0\0\x40", 0);
+    /// assert!(records.next().unwrap().is_ok() && records.next().unwrap().is_err());
+    /// assert!(records.next().is_none());
+    /// ```
+    Records: Record;
+    /// Returns an iterator over the consecutive records in a message, from an offset to the end. It ends after an error.
+    ///
+    /// ```
+    /// use dns_names_wire::{records, Error, Name};
+    ///
+    /// let message = b"\x12\x34\x84\0\0\x01\0\x01\0\0\0\0\x01b\0\0\x01\0\x01\xC0\x0C\0\x01\0\x01\0\0\0\0\0\x04\xC0\0\x02\x01";
+    /// let (_question, end) = Name::read(message, 12)?;
+    /// let data: Result<Vec<&[u8]>, Error> = records(message, end + 4).map(|record| Ok(record?.raw_data())).collect();
+    /// assert_eq!(data?, [[192, 0, 2, 1]]);
+    /// # Ok::<(), Error>(())
+    /// ```
+    records;
     /// Returns the offset in the message of the next record, or after an error the offset at which no valid record
     /// begins.
     ///
@@ -463,25 +468,5 @@ impl Records<'_> {
     /// assert!(records.next().unwrap().is_ok() && records.next().unwrap().is_err());
     /// assert_eq!(records.offset(), 11);
     /// ```
-    pub fn offset(&self) -> usize {
-        self.offset
-    }
+    offset
 }
-
-impl<'a> Iterator for Records<'a> {
-    type Item = Result<Record<'a>, Error>;
-
-    fn next(&mut self) -> Option<Self::Item> {
-        if self.has_failed || self.offset == self.message.len() {
-            return None;
-        }
-        let record = Record::read(self.message, self.offset);
-        match &record {
-            Ok(record) => self.offset = record.end(),
-            Err(_) => self.has_failed = true,
-        }
-        Some(record)
-    }
-}
-
-impl core::iter::FusedIterator for Records<'_> {}

@@ -1,11 +1,8 @@
 //! Records that own their octets.
-use crate::codes::{Class, RecordType};
-use crate::error::{Error, ErrorKind};
 use crate::ffi;
-use crate::name::Name;
-use crate::name_ref::NameRef;
-use crate::rdata::RData;
-use crate::record::{Record, TEXT_PARTS};
+use crate::octets::put_counted;
+use crate::record::{record_traits, TEXT_PARTS};
+use crate::{Class, Error, Name, NameRef, RData, Record, RecordType};
 use alloc::string::String;
 use alloc::vec::Vec;
 use core::cmp::Ordering;
@@ -56,9 +53,21 @@ impl RecordBuf {
     /// # Ok::<(), dns_names_wire::Error>(())
     /// ```
     pub fn new<'n, 'd>(owner: impl Into<NameRef<'n>>, ttl: u32, data: impl Into<RData<'d>>) -> Result<Self, Error> {
-        let (mut octets, data) = (Vec::new(), data.into());
-        let fixed =
-            put_record(&mut octets, owner.into(), (data.record_type(), Class::IN, ttl), |octets| data.put(octets))?;
+        RecordBuf::of_data(owner.into(), ttl, &data.into())
+    }
+
+    fn of_data(owner: NameRef<'_>, ttl: u32, data: &RData<'_>) -> Result<Self, Error> {
+        RecordBuf::made(owner, (data.record_type(), Class::IN, ttl), |octets| data.put(octets))
+    }
+
+    /// Returns the record whose data a function appends.
+    fn made(
+        owner: NameRef<'_>,
+        fields: (RecordType, Class, u32),
+        put_data: impl FnOnce(&mut Vec<u8>) -> Result<(), Error>,
+    ) -> Result<Self, Error> {
+        let mut octets = Vec::new();
+        let fixed = put_record(&mut octets, owner, fields, put_data)?;
         Ok(RecordBuf { octets, fixed })
     }
 
@@ -87,13 +96,10 @@ impl RecordBuf {
         ttl: u32,
         data: &[u8],
     ) -> Result<Self, Error> {
-        let mut octets = Vec::new();
-        let put = |octets: &mut Vec<u8>| {
+        RecordBuf::made(owner.into(), (record_type, class, ttl), |octets| {
             octets.extend_from_slice(data);
             Ok(())
-        };
-        let fixed = put_record(&mut octets, owner.into(), (record_type, class, ttl), put)?;
-        Ok(RecordBuf { octets, fixed })
+        })
     }
 
     /// Parses a line of a master file (RFC 1035, section 5.1): the owner, the TTL, the class, the type and the data.
@@ -146,17 +152,16 @@ impl RecordBuf {
         text: impl AsRef<[u8]>,
         origin: Option<&Name>,
     ) -> Result<Self, Error> {
-        let (mut octets, origin) = (Vec::new(), origin.map_or(Ok(&[][..]), Name::whole_wire)?);
-        let put = |octets: &mut Vec<u8>| {
-            ffi::parse_data((Class::IN.code(), record_type.code()), text.as_ref(), origin, octets)
-        };
-        let fixed = put_record(&mut octets, owner.into(), (record_type, Class::IN, ttl), put)?;
-        Ok(RecordBuf { octets, fixed })
+        let (class, text, origin) = (Class::IN, text.as_ref(), origin.map_or(Ok(&[][..]), Name::whole_wire)?);
+        RecordBuf::made(owner.into(), (record_type, class, ttl), |octets| {
+            ffi::append(octets, ffi::USUAL_SIZE, |room| ffi::data_parse(record_type, class, text, origin, room))
+                .map_err(|error| error.at_fault_of(ffi::data_text_fault(record_type, class, text, origin)))
+        })
     }
 
     fn parse(line: &[u8], origin: &[u8]) -> Result<Self, Error> {
-        let mut octets = Vec::new();
-        ffi::parse_record(line, origin, &mut octets)?;
+        let parsed = ffi::octets(ffi::USUAL_SIZE, |room| ffi::record_parse(line, origin, room));
+        let octets = parsed.map_err(|error| error.at_fault_of(ffi::record_text_fault(line, origin)))?;
         let fixed = Name::root().read_from(&octets, 0)?;
         Ok(RecordBuf { octets, fixed })
     }
@@ -292,76 +297,24 @@ pub(crate) fn put_record(
     let start = octets.len();
     owner.put(octets)?;
     let fixed = octets.len();
-    let ([t, u], [c, d], [l0, l1, l2, l3]) =
-        (record_type.code().to_be_bytes(), class.code().to_be_bytes(), ttl.to_be_bytes());
-    octets.extend_from_slice(&[t, u, c, d, l0, l1, l2, l3, 0, 0]);
-    let put = put_data(octets).and_then(|()| {
-        let len = octets.len() - fixed - FIXED_SIZE;
-        u16::try_from(len).map_err(|_| ErrorKind::DataTooLong.into())
-    });
-    match put {
-        Ok(len) => {
-            octets[fixed + LENGTH..fixed + FIXED_SIZE].copy_from_slice(&len.to_be_bytes());
-            Ok(fixed)
-        }
-        Err(error) => {
-            octets.truncate(start);
-            Err(error)
-        }
+    let ([t, u], [c, d]) = (record_type.code().to_be_bytes(), class.code().to_be_bytes());
+    let [l0, l1, l2, l3] = ttl.to_be_bytes();
+    octets.extend_from_slice(&[t, u, c, d, l0, l1, l2, l3]);
+    let put = put_counted(octets, put_data);
+    if put.is_err() {
+        octets.truncate(start);
     }
+    put.map(|()| fixed)
 }
 
 /// Returns the text of data in a master file.
 pub(crate) fn data_text(data: &RData<'_>) -> Result<String, Error> {
-    let (mut octets, mut line) = (Vec::new(), Vec::new());
-    let root = Name::root();
-    put_record(&mut octets, (&root).into(), (data.record_type(), Class::IN, 0), |octets| data.put(octets))?;
-    let line = ffi::print_record(&octets, 0, &mut line)?;
+    let line = RecordBuf::of_data((&Name::root()).into(), 0, data)?.as_record().line()?;
     // No owner, TTL, class or type has a space in its text.
     Ok(line.splitn(TEXT_PARTS, ' ').nth(TEXT_PARTS - 1).unwrap_or_default().into())
 }
 
-/// As [`Record`] compares.
-impl PartialEq for RecordBuf {
-    fn eq(&self, other: &Self) -> bool {
-        self.as_record() == other.as_record()
-    }
-}
-
-impl Eq for RecordBuf {}
-
-impl PartialOrd for RecordBuf {
-    fn partial_cmp(&self, other: &Self) -> Option<Ordering> {
-        Some(self.cmp(other))
-    }
-}
-
-/// As [`Record`] is ordered.
-impl Ord for RecordBuf {
-    fn cmp(&self, other: &Self) -> Ordering {
-        self.as_record().cmp(&other.as_record())
-    }
-}
-
-impl Hash for RecordBuf {
-    fn hash<H: Hasher>(&self, state: &mut H) {
-        self.as_record().hash(state);
-    }
-}
-
-/// Prints a line of a master file, as [`Record`] does.
-impl fmt::Display for RecordBuf {
-    fn fmt(&self, f: &mut fmt::Formatter<'_>) -> fmt::Result {
-        fmt::Display::fmt(&self.as_record(), f)
-    }
-}
-
-/// Prints the line, as `Display` does.
-impl fmt::Debug for RecordBuf {
-    fn fmt(&self, f: &mut fmt::Formatter<'_>) -> fmt::Result {
-        f.debug_tuple("RecordBuf").field(&format_args!("{self}")).finish()
-    }
-}
+record_traits!(RecordBuf);
 
 /// The same as [`RecordBuf::from_text`], without an origin.
 impl FromStr for RecordBuf {

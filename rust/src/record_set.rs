@@ -1,12 +1,6 @@
 //! Sets of records with the same owner, class and type.
-use crate::codes::{Class, RecordType};
-use crate::error::{Error, ErrorKind};
-use crate::field::Fields;
-use crate::name::Name;
-use crate::name_ref::NameRef;
-use crate::rdata::RData;
-use crate::record::Record;
-use crate::record_buf::RecordBuf;
+use crate::octets::put_counted;
+use crate::{Class, Error, ErrorKind, Fields, Name, NameRef, RData, Record, RecordBuf, RecordType};
 use alloc::collections::BTreeMap;
 use alloc::vec::Vec;
 use core::fmt;
@@ -137,23 +131,13 @@ impl RecordSet {
     fn insert_put(&mut self, put: impl FnOnce(&mut Vec<u8>) -> Result<(), Error>) -> Result<bool, Error> {
         self.owner.whole_wire()?;
         let start = self.octets.len();
-        self.octets.extend_from_slice(&[0; LENGTH_SIZE]);
-        let len = put(&mut self.octets).and_then(|()| {
-            let len = self.octets.len() - start - LENGTH_SIZE;
-            u16::try_from(len).map_err(|_| ErrorKind::DataTooLong.into())
-        });
-        let is_new = match len {
-            Ok(len) => {
-                self.octets[start..start + LENGTH_SIZE].copy_from_slice(&len.to_be_bytes());
-                !self.has_twice(start)
-            }
-            Err(_) => false,
-        };
+        put_counted(&mut self.octets, put)?;
+        let is_new = !self.has_twice(start);
         match is_new {
             true => self.len += 1,
             false => self.octets.truncate(start),
         }
-        len.map(|_| is_new)
+        Ok(is_new)
     }
 
     /// Returns whether the data at an offset, the last ones, equal earlier ones.

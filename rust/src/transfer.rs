@@ -1,10 +1,7 @@
 //! Responses to AXFR and IXFR, which are split into messages.
-use crate::builder::{ANSWERS, USUAL_PAYLOAD};
-use crate::error::Error;
+use crate::builder::USUAL_PAYLOAD;
 use crate::ffi;
-use crate::header::Header;
-use crate::message::Message;
-use crate::record_buf::RecordBuf;
+use crate::{Error, Message, RecordBuf};
 use alloc::vec;
 use alloc::vec::Vec;
 use core::borrow::Borrow;
@@ -53,7 +50,7 @@ impl Transfer {
     pub fn new<R: Borrow<RecordBuf>>(request: &Message<'_>, records: impl IntoIterator<Item = R>) -> Self {
         let mut items = Vec::new();
         for record in records {
-            items.push(ANSWERS);
+            items.push(ffi::LIST_ANSWER);
             items.extend_from_slice(record.borrow().as_wire());
         }
         Transfer { request: request.octets().to_vec(), items, next: 0, max_size: u16::MAX, is_over: false }
@@ -63,6 +60,17 @@ impl Transfer {
     ///
     /// If it has no room for a record beside the header and the question, the message fails with `MessageTooLong`, and is
     /// the last.
+    ///
+    /// ```
+    /// use dns_names_wire::{ErrorKind, Message, MessageBuilder, Name, RecordBuf, RecordType, Transfer};
+    ///
+    /// let query = MessageBuilder::query(7, &Name::root(), RecordType::AXFR).finish(512)?;
+    /// let records = [". 60 SOA . . 1 2 3 4 5".parse::<RecordBuf>()?];
+    /// let mut messages = Transfer::new(&Message::read(&query)?, &records).max_size(40);
+    /// assert_eq!(messages.next().unwrap().unwrap_err().kind(), ErrorKind::MessageTooLong);
+    /// assert!(messages.next().is_none());
+    /// # Ok::<(), dns_names_wire::Error>(())
+    /// ```
     #[must_use]
     pub fn max_size(mut self, octets: u16) -> Self {
         self.max_size = octets;
@@ -71,14 +79,14 @@ impl Transfer {
 
     /// Returns the next message, and moves `next` past its records.
     fn message(&mut self) -> Result<Vec<u8>, Error> {
-        let (mut room, mut writer) = (vec![0; self.max_size.into()], ffi::Writer::none());
-        let header = Header { authoritative: true, ..Header::default() };
-        let edns = writer.reply(&mut room, self.max_size.into(), &self.request, (header.flag_bits(), 0))?;
+        let (mut room, mut writer) = (vec![0; self.max_size.into()], ffi::Writer::ZERO);
+        let (most, flags) = (self.max_size.into(), ffi::FLAG_AUTHORITATIVE);
+        let edns = ffi::writer_reply(&mut room, most, &self.request, flags, 0, &mut writer)?;
         self.next = match edns.takes_records {
-            true => writer.fill(&mut room, &self.items, self.next)?,
+            true => ffi::writer_fill(&mut room, &self.items, self.next, &mut writer)?,
             false => self.items.len(),
         };
-        writer.reply_edns(&mut room, &edns, (USUAL_PAYLOAD, 0), &[])?;
+        ffi::writer_reply_edns(&mut room, &edns, USUAL_PAYLOAD, &[], 0, &mut writer)?;
         room.truncate(writer.len);
         Ok(room)
     }

@@ -1,6 +1,6 @@
 //! Times to live, as texts.
-use crate::error::Error;
 use crate::ffi;
+use crate::Error;
 
 /// Parses a TTL, and returns its seconds: groups of digits, each with a unit of `s`, `m`, `h`, `d` or `w`. The last
 /// group may have no unit.
@@ -17,5 +17,5 @@ use crate::ffi;
 /// assert_eq!(parse_ttl("h").unwrap_err().kind(), ErrorKind::BadTime);
 /// ```
 pub fn parse_ttl(text: &str) -> Result<u32, Error> {
-    ffi::ttl(text)
+    ffi::ttl_parse(text.as_bytes())
 }

@@ -1,7 +1,6 @@
 //! Sets of record types, read from and written to bitmaps.
-use crate::codes::RecordType;
-use crate::error::Error;
 use crate::ffi;
+use crate::{Error, RecordType};
 use alloc::string::{String, ToString};
 use alloc::vec::{self, Vec};
 use core::fmt;
@@ -79,7 +78,7 @@ impl TypeSet {
         // A window has at most 34 octets, and there is one for each first octet of a code.
         let windows = codes.windows(2).filter(|pair| pair[0] >> 8 != pair[1] >> 8).count() + 1;
         let mut bitmap = alloc::vec![0; 34 * windows];
-        let len = ffi::types_write(&codes, &mut bitmap)?;
+        let len = ffi::types_write(&codes, &mut bitmap[..])?;
         bitmap.truncate(len);
         Ok(bitmap)
     }

@@ -1,16 +1,11 @@
 //! Messages that are written item by item, into a buffer of the caller.
 use crate::builder::USUAL_PAYLOAD;
-use crate::codes::{Class, RecordType};
-use crate::error::{Error, ErrorKind, Section};
 use crate::ffi;
-use crate::header::{Header, ResponseCode};
-use crate::message::{Edns, Message};
-use crate::name_ref::NameRef;
 use crate::octets::{Room, STACK_SIZE};
-use crate::rdata::RData;
-use crate::record::Record;
-use crate::record_buf::RecordBuf;
-use crate::record_set::RecordSet;
+use crate::{
+    Class, Edns, Error, ErrorKind, Header, Message, NameRef, RData, Record, RecordBuf, RecordSet, RecordType,
+    ResponseCode, Section,
+};
 use alloc::vec::Vec;
 use core::fmt;
 
@@ -84,10 +79,9 @@ impl<'m> MessageWriter<'m> {
     /// # Ok::<(), dns_names_wire::Error>(())
     /// ```
     pub fn new(message: &'m mut [u8], max_size: usize, header: &Header) -> Result<Self, Error> {
-        let mut writer =
-            MessageWriter { message, state: ffi::Writer::none(), code: header.response_code.into(), asked: None };
-        writer.state.begin(writer.message, max_size, (header.id, header.flag_bits()))?;
-        Ok(writer)
+        let (mut state, code) = (ffi::Writer::ZERO, header.response_code.into());
+        ffi::writer_begin(message, max_size, header.id, header.flag_bits(), &mut state)?;
+        Ok(MessageWriter { message, state, code, asked: None })
     }
 
     /// Begins a query for records of a name, of class IN, with RD set, in at most `max_size` octets. If `max_payload` is
@@ -118,11 +112,11 @@ impl<'m> MessageWriter<'m> {
         record_type: RecordType,
         max_payload: Option<u16>,
     ) -> Result<Self, Error> {
-        let mut writer = MessageWriter { message, state: ffi::Writer::none(), code: 0, asked: None };
-        let (form, size) = ((record_type.code(), Class::IN.code()), max_payload.map_or(0, |size| size.max(1)));
-        let (state, room) = (&mut writer.state, &mut *writer.message);
-        name.into().with_form(|name| state.query(room, max_size, (id, true), name, form, size))?;
-        Ok(writer)
+        let (mut state, payload) = (ffi::Writer::ZERO, max_payload.map_or(0, |size| size.max(1)));
+        name.into().with_form(|name| {
+            ffi::writer_query(message, max_size, id, true, name, record_type, Class::IN, payload, &mut state)
+        })?;
+        Ok(MessageWriter { message, state, code: 0, asked: None })
     }
 
     /// Begins the reply to a request, in at most `max_size` octets.
@@ -160,13 +154,11 @@ impl<'m> MessageWriter<'m> {
         request: &[u8],
         header: &Header,
     ) -> Result<(Self, Option<Edns<'static>>), Error> {
-        let mut state = ffi::Writer::none();
-        let flags = (header.flag_bits(), header.response_code.into());
-        let asked = state.reply(message, max_size, request, flags)?;
-        let ffi::Edns { is_present, max_payload, version, dnssec_ok, .. } = asked;
-        let edns = Edns { max_payload, version, dnssec_ok, options: &[] };
+        let mut state = ffi::Writer::ZERO;
+        let (flags, code) = (header.flag_bits(), header.response_code.into());
+        let asked = ffi::writer_reply(message, max_size, request, flags, code, &mut state)?;
         let writer = MessageWriter { message, state, code: asked.response_code, asked: Some(asked) };
-        Ok((writer, Some(edns).filter(|_| is_present)))
+        Ok((writer, Edns::of(&asked, &[])))
     }
 
     /// Adds a question.
@@ -191,8 +183,7 @@ impl<'m> MessageWriter<'m> {
         record_type: RecordType,
         class: Class,
     ) -> Result<&mut Self, Error> {
-        let form = (record_type.code(), class.code());
-        name.into().with_form(|name| self.state.question(self.message, name, form))?;
+        name.into().with_form(|name| ffi::writer_question(self.message, name, record_type, class, &mut self.state))?;
         Ok(self)
     }
 
@@ -247,8 +238,10 @@ impl<'m> MessageWriter<'m> {
         (record_type, class, ttl): (RecordType, Class, u32),
         data: &[u8],
     ) -> Result<&mut Self, Error> {
-        let fixed = (record_type.code(), class.code(), ttl);
-        owner.into().with_form(|owner| self.state.record(self.message, section, owner, fixed, data))?;
+        let (message, section, state) = (&mut *self.message, section as u32, &mut self.state);
+        owner
+            .into()
+            .with_form(|owner| ffi::writer_record(message, section, owner, record_type, class, ttl, data, state))?;
         Ok(self)
     }
 
@@ -305,9 +298,10 @@ impl<'m> MessageWriter<'m> {
     /// # Ok::<(), dns_names_wire::Error>(())
     /// ```
     pub fn set(&mut self, section: Section, need: Need, set: &RecordSet) -> Result<&mut Self, Error> {
-        let fixed = (set.record_type().code(), set.class().code(), set.ttl());
-        let place = (section, need == Need::Required);
-        self.state.set(self.message, place, set.owner().as_wire(), fixed, set.as_list())?;
+        let (required, owner, data) = (need == Need::Required, set.owner().whole_wire()?, set.as_list());
+        let (message, section, state) = (&mut *self.message, section as u32, &mut self.state);
+        let (record_type, class, ttl) = (set.record_type(), set.class(), set.ttl());
+        ffi::writer_set(message, section, required, owner, record_type, class, ttl, data, state)?;
         Ok(self)
     }
 
@@ -326,13 +320,25 @@ impl<'m> MessageWriter<'m> {
     /// # Ok::<(), dns_names_wire::Error>(())
     /// ```
     pub fn hold(&mut self, octets: usize) -> &mut Self {
-        self.state.hold(octets);
+        // It never fails.
+        let _ = ffi::writer_hold(octets, &mut self.state);
         self
     }
 
     /// Gives back octets that are held back, or all if there are fewer.
+    ///
+    /// ```
+    /// use dns_names_wire::{Class, Header, MessageWriter, Name, RecordType};
+    ///
+    /// let mut room = [0; 17];
+    /// let mut writer = MessageWriter::new(&mut room, 17, &Header::default())?;
+    /// assert!(writer.hold(1).question(&Name::root(), RecordType::NS, Class::IN).is_err());
+    /// assert!(writer.release(9).question(&Name::root(), RecordType::NS, Class::IN).is_ok());
+    /// # Ok::<(), dns_names_wire::Error>(())
+    /// ```
     pub fn release(&mut self, octets: usize) -> &mut Self {
-        self.state.release(octets);
+        // It never fails.
+        let _ = ffi::writer_release(octets, &mut self.state);
         self
     }
 
@@ -376,13 +382,7 @@ impl<'m> MessageWriter<'m> {
     /// # Ok::<(), dns_names_wire::Error>(())
     /// ```
     pub fn padded_edns(&mut self, edns: &Edns<'_>, block: u16) -> Result<&mut Self, Error> {
-        match &self.asked {
-            Some(asked) => self.state.reply_edns(self.message, asked, (edns.max_payload, block), edns.options)?,
-            None => {
-                let fields = (edns.max_payload, edns.version, edns.dnssec_ok);
-                self.state.edns(self.message, (self.code, block), fields, edns.options)?;
-            }
-        }
+        edns.write(self.message, self.asked.as_ref(), self.code, block, &mut self.state)?;
         Ok(self)
     }
 
@@ -413,8 +413,9 @@ impl<'m> MessageWriter<'m> {
     pub fn last(&mut self, held: usize, record: &RecordBuf) -> Result<&mut Self, Error> {
         self.add_owed_edns();
         let read = record.as_record();
-        let fixed = (read.record_type().code(), read.class().code(), read.ttl());
-        read.owner().with_form(|owner| self.state.last(self.message, held, owner, fixed, read.raw_data()))?;
+        let (record_type, class, ttl, data) = (read.record_type(), read.class(), read.ttl(), read.raw_data());
+        let (message, state) = (&mut *self.message, &mut self.state);
+        read.owner().with_form(|owner| ffi::writer_last(message, held, owner, record_type, class, ttl, data, state))?;
         Ok(self)
     }
 

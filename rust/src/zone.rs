@@ -1,9 +1,6 @@
 //! Zone files, read entry by entry (RFC 1035, section 5; RFC 2308, section 4).
-use crate::error::Error;
 use crate::ffi;
-use crate::name::Name;
-use crate::name_ref::NameRef;
-use crate::record_buf::RecordBuf;
+use crate::{Error, Name, NameRef, RecordBuf};
 use alloc::string::{String, ToString};
 use alloc::vec;
 use alloc::vec::Vec;
@@ -63,7 +60,18 @@ pub struct ZoneReader<'a> {
 
 impl<'a> ZoneReader<'a> {
     /// Returns an iterator over the entries of a zone file. The origin is the name of the zone: it is appended to names
-    /// without a last dot, until an `$ORIGIN` changes it.
+    /// without a last dot, until an `$ORIGIN` changes it. If it is not fully qualified itself, the one item is an error whose
+    /// source is `RelativeName`.
+    ///
+    /// ```
+    /// use dns_names_wire::{ErrorKind, ZoneReader};
+    ///
+    /// let text = b"$TTL 60\nwww A 192.0.2.1\n";
+    /// assert!(ZoneReader::new(text, &"example.".parse()?).all(|item| item.is_ok()));
+    /// let error = ZoneReader::new(text, &"example".parse()?).next().unwrap().unwrap_err();
+    /// assert_eq!(error.sentence(), ErrorKind::RelativeName.to_string());
+    /// # Ok::<(), dns_names_wire::Error>(())
+    /// ```
     pub fn new(text: &'a [u8], origin: &Name) -> Self {
         ZoneReader { text, entries: Entries::new(origin) }
     }
@@ -167,6 +175,15 @@ impl fmt::Debug for ZoneReader<'_> {
 }
 
 /// What an entry of a zone file says: a record, or that another file should be read.
+///
+/// ```
+/// use dns_names_wire::{ZoneItem, ZoneReader};
+///
+/// let mut zone = ZoneReader::new(b"$TTL 60\nwww A 192.0.2.1\n$INCLUDE other.zone\n", &"example.".parse()?);
+/// assert!(matches!(zone.next(), Some(Ok(ZoneItem::Record(record))) if record.ttl() == 60));
+/// assert!(matches!(zone.next(), Some(Ok(ZoneItem::Include(_)))));
+/// # Ok::<(), dns_names_wire::Error>(())
+/// ```
 #[derive(Clone, Debug, PartialEq, Eq)]
 pub enum ZoneItem {
     /// A record. What its entry leaves out is filled in.
@@ -202,7 +219,17 @@ impl ZoneInclude {
         &self.file
     }
 
-    /// Returns the name of the file, as a path.
+    /// Returns the name of the file, as a path. Whether it may be read is for the caller to decide.
+    ///
+    /// ```
+    /// use dns_names_wire::{ZoneItem, ZoneReader};
+    ///
+    /// match ZoneReader::new(b"$INCLUDE sub/mail.zone\n", &"example.".parse()?).next() {
+    ///     Some(Ok(ZoneItem::Include(include))) => assert!(include.path().is_relative()),
+    ///     other => panic!("{other:?}"),
+    /// }
+    /// # Ok::<(), dns_names_wire::Error>(())
+    /// ```
     #[cfg(feature = "std")]
     pub fn path(&self) -> &std::path::Path {
         use std::os::unix::ffi::OsStrExt;
@@ -226,6 +253,8 @@ impl fmt::Debug for ZoneInclude {
 #[derive(Clone)]
 struct Entries {
     zone: ffi::Zone,
+    /// Why no entry can be taken.
+    failure: Option<Error>,
     entry: ffi::ZoneEntry,
     octets: Vec<u8>,
     batch: Batch,
@@ -239,14 +268,14 @@ const ROWS_SIZE: usize = 1 << 14;
 #[derive(Clone)]
 struct Batch {
     rows: Vec<ffi::ZoneRow>,
-    read: ffi::ZoneRead,
+    read: ffi::RowsRead,
     taken: usize,
     passed: usize,
 }
 
 impl Batch {
     fn new() -> Self {
-        Batch { rows: vec![ffi::ZoneRow::default(); ROWS], read: ffi::ZoneRead::default(), taken: 0, passed: 0 }
+        Batch { rows: vec![ffi::ZoneRow::ZERO; ROWS], read: ffi::RowsRead::ZERO, taken: 0, passed: 0 }
     }
 
     /// Takes the next record, and returns how many octets its entry has, with what is before the one after it.
@@ -276,28 +305,31 @@ enum Taken {
 
 impl Entries {
     fn new(origin: &Name) -> Self {
-        Entries::with_state(ffi::begin_zone(origin.as_wire()).expect("a name has a wire form"))
+        let mut zone = ffi::Zone::ZERO;
+        let begun = origin.whole_wire().and_then(|origin| ffi::zone_begin(origin, &mut zone));
+        Entries::with_state(zone, begun.err())
     }
 
     /// Returns the entries of a file that is included after the last one.
     fn include(&self, origin: &Name) -> Self {
-        let zone = ffi::include_zone(self.zone.clone(), origin.as_wire());
-        Entries::with_state(zone.expect("a name has a wire form, and so have those of the state"))
+        let mut zone = self.zone.clone();
+        let begun = origin.whole_wire().and_then(|origin| ffi::zone_include(origin, &mut zone));
+        Entries::with_state(zone, self.failure.or(begun.err()))
     }
 
     /// Sets the TTL of records for which the file states none.
     fn set_default_ttl(&mut self, ttl: u32) {
-        self.zone.set_fallback_ttl(ttl);
+        (self.zone.fallback_ttl, self.zone.has_fallback_ttl) = (ttl, 1);
     }
 
     /// Sets how many records a `$GENERATE` may stand for.
     fn set_generate_limit(&mut self, limit: u32) {
-        self.zone.set_generate_limit(limit);
+        self.zone.generate_limit = limit;
     }
 
-    fn with_state(zone: ffi::Zone) -> Self {
+    fn with_state(zone: ffi::Zone, failure: Option<Error>) -> Self {
         let octets = vec![0; ffi::ZONE_OCTETS_SIZE + ROWS_SIZE];
-        Entries { zone, entry: ffi::ZoneEntry::default(), octets, batch: Batch::new() }
+        Entries { zone, failure, entry: ffi::ZoneEntry::ZERO, octets, batch: Batch::new() }
     }
 
     /// Takes the first entry that has an item or is not valid, and those before it. Returns how many octets they have.
@@ -329,12 +361,15 @@ impl Entries {
     /// Reads the records that a text begins with, or the entry that it begins with if there are none.
     fn read(&mut self, text: &[u8], more: bool) -> Result<(), Error> {
         let (zone, batch) = (&mut self.zone, &mut self.batch);
-        (batch.read, batch.taken, batch.passed) = (ffi::ZoneRead::default(), 0, 0);
-        batch.read = ffi::read_entries(text, more, zone, &mut batch.rows, &mut self.octets)?;
-        if batch.read.row_count > 0 {
-            return Ok(());
+        (batch.read, batch.taken, batch.passed) = (ffi::RowsRead::ZERO, 0, 0);
+        if let Some(error) = self.failure {
+            return Err(error);
         }
-        ffi::next_entry(&text[batch.read.used..], more, zone, &mut self.octets, &mut self.entry)
+        batch.read = ffi::zone_read(text, more, zone, &mut batch.rows, &mut self.octets[..])?;
+        if batch.read.row_count == 0 {
+            self.entry = ffi::zone_next(&text[batch.read.used..], more, zone, &mut self.octets[..])?;
+        }
+        Ok(())
     }
 
     /// Returns the item of the entry that was taken, or why it is not valid. The text ends where the entry does.
@@ -346,7 +381,12 @@ impl Entries {
                 let origin = NameRef::checked(octets, 0, entry.name_len).to_name();
                 Ok(ZoneItem::Include(ZoneInclude { file: octets[entry.name_len..].to_vec(), origin }))
             }
-            _ => Err(self.error(text, entry.fault.offset, ffi::fault_reason(&entry.fault))),
+            _ => {
+                // The sentence begins with the place, which is said in another way.
+                let sentence = ffi::sentence(&entry.fault);
+                let reason = sentence.split_once(": ").map_or("the entry is not valid", |(_, reason)| reason);
+                Err(self.error(text, entry.fault.offset, reason.into()))
+            }
         }
     }
 
@@ -369,6 +409,7 @@ impl Entries {
 
     /// Returns an error after the last entry, where this text is.
     fn error_ahead(&self, text: &[u8], sentence: String) -> ZoneError {
-        ZoneError::new(self.zone.place(), text, 0, sentence)
+        let ffi::Zone { offset, line, column, .. } = self.zone;
+        ZoneError::new((offset, line.saturating_add(1), column.saturating_add(1)), text, 0, sentence)
     }
 }

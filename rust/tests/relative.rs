@@ -3,9 +3,11 @@
 
 use dns_names_wire::rdata::{HIP, MX, SOA};
 use dns_names_wire::{
-    owned, Class, Error, ErrorKind, Header, MessageBuilder, MessageWriter, Name, NameRef, RData, RecordBuf, RecordSet,
-    RecordType, Section,
+    check_zone, dnssec, owned, Class, EdnsOptionData, Error, ErrorKind, Header, MessageBuilder, MessageWriter, Name,
+    NameRef, RData, RecordBuf, RecordSet, RecordType, Section, ZoneItem, ZoneReader, ZoneWriter,
 };
+#[cfg(feature = "std")]
+use dns_names_wire::{ZoneFile, ZoneStream};
 use std::net::Ipv4Addr;
 
 fn name(text: &str) -> Name {
@@ -82,7 +84,55 @@ fn no_message_takes_one() {
 }
 
 #[test]
+fn no_zone_takes_one() {
+    let (relative, whole) = (name("example"), name("example."));
+    let text = b"$TTL 60\n@ NS ns\n";
+    let mut zone = ZoneReader::new(text, &relative);
+    let error = zone.next().unwrap().unwrap_err();
+    assert_eq!(error.to_string(), format!("1:1: {}", ErrorKind::RelativeName));
+    assert!(zone.next().is_none());
+    let mut zone = ZoneReader::new(b"$TTL 60\n$INCLUDE other\n@ NS ns\n", &whole);
+    assert!(matches!(zone.next(), Some(Ok(ZoneItem::Include(_)))));
+    assert!(zone.include(text, &relative).next().unwrap().is_err());
+    assert!(zone.include(text, &whole).next().unwrap().is_ok());
+    assert!(zone.next().unwrap().is_ok());
+    assert_eq!(kind(ZoneWriter::new(&relative)), ErrorKind::RelativeName);
+    let mut file = ZoneWriter::new(&whole).unwrap();
+    assert_eq!(kind(file.push_origin(&relative)), ErrorKind::RelativeName);
+    assert_eq!(file.text(), "$ORIGIN example.\n");
+    let records: [RecordBuf; 0] = [];
+    assert_eq!(kind(check_zone(&relative, &records)), ErrorKind::RelativeName);
+    assert_eq!(kind(dnssec::zone_digest(&relative, &records, 1)), ErrorKind::RelativeName);
+}
+
+#[cfg(feature = "std")]
+#[test]
+fn no_file_takes_one() {
+    let mut zone = ZoneStream::new(&b"@ 60 NS ns\n"[..], &name("example"));
+    let error = zone.next().unwrap().unwrap_err();
+    let source = std::error::Error::source(&error).and_then(|source| source.downcast_ref::<Error>()).copied();
+    assert_eq!(source.map(Error::kind), Some(ErrorKind::RelativeName));
+    assert!(zone.next().is_none());
+    let path = concat!(env!("CARGO_MANIFEST_DIR"), "/tests/zones/example.zone");
+    let error = ZoneFile::open(path, &name("example")).unwrap_err();
+    assert_eq!(error.kind(), std::io::ErrorKind::InvalidData);
+    assert_eq!(error.to_string(), ErrorKind::RelativeName.to_string());
+}
+
+#[test]
+fn no_sum_and_no_option_takes_one() {
+    let relative = name("example");
+    assert_eq!(kind(dnssec::ds_digest(&relative, &[1, 1, 3, 13, 7, 7], 2)), ErrorKind::RelativeName);
+    let params = dnssec::Nsec3Params { algorithm: 1, iterations: 0, salt: &[], max_iterations: 0 };
+    assert_eq!(kind(params.hash(&relative)), ErrorKind::RelativeName);
+    assert_eq!(kind(params.label(&relative)), ErrorKind::RelativeName);
+    assert_eq!(kind(EdnsOptionData::ReportChannel(relative.clone()).to_octets()), ErrorKind::RelativeName);
+    assert_eq!(kind(EdnsOptionData::Chain(Some(relative)).to_octets()), ErrorKind::RelativeName);
+}
+
+#[test]
 fn it_is_said_in_words() {
-    assert_eq!(ErrorKind::RelativeName.to_string(), "a name is not fully qualified");
+    let words = "a name is not fully qualified: `Name::set_fqdn` or an origin makes it so";
+    assert_eq!(ErrorKind::RelativeName.to_string(), words);
     assert_eq!(ErrorKind::RelativeName.number(), 0);
 }

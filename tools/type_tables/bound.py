@@ -10,7 +10,7 @@ from .listed import TABLE, Type, fail
 
 @dataclass(frozen=True)
 class Bound:
-    """A kind of field in Rust, its type and the word by which it is read and written; and in Python, the letter by which _data.py
+    """A kind of field in Rust, its type and the word by which it is written and shown; and in Python, the letter by which _data.py
     knows it, its annotation and, if that is another one, what the constructor takes."""
 
     rust: str
@@ -18,6 +18,11 @@ class Bound:
     letter: str
     python: str
     taken: str = ""
+
+    @property
+    def owned(self) -> str:
+        """The type in Rust with octets of its own."""
+        return {"NameRef<'a>": "Name", OCTETS: "Vec<u8>"}.get(self.rust) or self.rust.replace("<'a>", "")
 
 
 OCTETS = "&'a [u8]"
@@ -38,11 +43,11 @@ KINDS: Dict[str, Bound] = {
     "NodeNumber": Bound("u64", "u64", "8", "int"),
     "Counted Text": Bound(OCTETS, "string", "s", "bytes", "StringLike"),
     "Counted Tag": Bound(OCTETS, "string", "s", "bytes", "StringLike"),
-    "Counted": Bound(OCTETS, "counted", "c", "bytes", "Bytes"),
+    "Counted": Bound(OCTETS, "string", "c", "bytes", "Bytes"),
     "LongCounted": Bound(OCTETS, "long", "l", "bytes", "Bytes"),
     "Octets Text": Bound(OCTETS, "rest", "x", "bytes", "StringLike"),
     "Octets": Bound(OCTETS, "rest", "o", "bytes", "Bytes"),
-    "Shaped": Bound(OCTETS, "shaped", "g", "bytes", "Bytes"),
+    "Shaped": Bound(OCTETS, "rest", "g", "bytes", "Bytes"),
     "List Texts": Bound("Texts<'a>", "texts", "S", "Tuple[bytes, ...]", "StringsLike"),
     "List Types": Bound("TypeSet", "types", "B", "TypeSet", "TypesLike"),
     "List Params": Bound("Pairs<'a>", "params", "P", "Tuple[Tuple[int, bytes], ...]", "Iterable[Tuple[int, Bytes]]"),

@@ -81,7 +81,7 @@ def struct_lines(it: Struct) -> Iterator[str]:
     yield f"            {it.head} {{"
     for own, kind in it.fields:
         yield from docs(own.words or f"The {own.name.replace('_', ' ')}.", 16)
-        yield f"                {own.name}: {kind.rust} = {kind.word},"
+        yield f"                {own.name}: {kind.rust}, {kind.owned} = {kind.word},"
     yield "            }"
 
 
@@ -92,7 +92,7 @@ def variants(its: TypeList, heads: Dict[str, str]) -> Tuple[List[str], List[str]
         name = name_of(it.name)
         if len(it.kinds) == 1:
             kind = bound(it.kinds[0])
-            one += [*docs(f"{it.about}.", 16), f"                {name} = {it.code}: {kind.rust} = {kind.word},"]
+            one += [*docs(f"{it.about}.", 16), f"                {name} = {it.code}: {kind.rust}, {kind.owned} = {kind.word},"]
         else:
             several += [*docs(f"{it.about}.", 16), f"                {name} = {it.code}: {heads[name_of(owner_of(it))]},"]
     return one, several
@@ -115,8 +115,8 @@ def data(its: TypeList) -> str:
             "//! The table of the data of all types, from which the borrowed and the owned form are made.",
             *macro(
                 "each_struct",
-                "Passes the structs for data with several fields to a macro. Each field has its type in the borrowed form, and its "
-                "kind, by which it is read, written, shown and owned.",
+                "Passes the structs for data with several fields to a macro. Each field has its type in the borrowed form and in the owned "
+                "one, and its kind, by which it is written and shown.",
                 each,
             ),
             *macro(

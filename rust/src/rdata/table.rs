@@ -1,406 +1,406 @@
 // made by tools/types from crates/dnw_data/specs/Table.antt; change it there
 //! The table of the data of all types, from which the borrowed and the owned form are made.
 
-/// Passes the structs for data with several fields to a macro. Each field has its type in the borrowed form, and its
-/// kind, by which it is read, written, shown and owned.
+/// Passes the structs for data with several fields to a macro. Each field has its type in the borrowed form and in the
+/// owned one, and its kind, by which it is written and shown.
 macro_rules! each_struct {
     ($then:ident) => {
         $then! {
             /// The start of a zone of authority (RFC 1035, section 3.3.13).
             SOA<'a> {
                 /// The primary name server of the zone.
-                mname: NameRef<'a> = name,
+                mname: NameRef<'a>, Name = name,
                 /// The mailbox of the person responsible for the zone.
-                rname: NameRef<'a> = name,
+                rname: NameRef<'a>, Name = name,
                 /// The version of the zone, a [`SerialNumber`](crate::SerialNumber).
-                serial: u32 = u32,
+                serial: u32, u32 = u32,
                 /// The seconds until the zone should be refreshed.
-                refresh: u32 = u32,
+                refresh: u32, u32 = u32,
                 /// The seconds until a failed refresh should be tried again.
-                retry: u32 = u32,
+                retry: u32, u32 = u32,
                 /// The seconds after which the zone is no longer authoritative.
-                expire: u32 = u32,
+                expire: u32, u32 = u32,
                 /// The TTL of negative answers, in seconds (RFC 2308, section 4).
-                minimum: u32 = u32,
+                minimum: u32, u32 = u32,
             }
 
             /// The services of a host by their ports, which is obsolete (RFC 1035, section 3.4.2).
             WKS<'a> {
                 /// The address of the host.
-                address: Ipv4Addr = ipv4,
+                address: Ipv4Addr, Ipv4Addr = ipv4,
                 /// The protocol.
-                protocol: u8 = u8,
+                protocol: u8, u8 = u8,
                 /// A bit for each port.
-                bitmap: &'a [u8] = rest,
+                bitmap: &'a [u8], Vec<u8> = rest,
             }
 
             /// The CPU and the operating system of a host (RFC 1035, section 3.3.2).
             HINFO<'a> {
                 /// The CPU.
-                cpu: &'a [u8] = string,
+                cpu: &'a [u8], Vec<u8> = string,
                 /// The operating system.
-                os: &'a [u8] = string,
+                os: &'a [u8], Vec<u8> = string,
             }
 
             /// Two mailboxes (RFC 1035, section 3.3.7), or a mailbox and the owner of a TXT record (RFC 1183, section
             /// 2.2).
             Mailboxes<'a> {
                 /// The first mailbox.
-                mailbox: NameRef<'a> = name,
+                mailbox: NameRef<'a>, Name = name,
                 /// The second mailbox, or the owner of a TXT record.
-                other: NameRef<'a> = name,
+                other: NameRef<'a>, Name = name,
             }
 
             /// A mail server for a domain (RFC 1035, section 3.3.9). Also the data of AFSDB, RT, KX and LP.
             MX<'a> {
                 /// Lower values are preferred.
-                preference: u16 = u16,
+                preference: u16, u16 = u16,
                 /// The host.
-                exchange: NameRef<'a> = name,
+                exchange: NameRef<'a>, Name = name,
             }
 
             /// A signature of records (RFC 4034, section 3.1). Also the data of SIG.
             RRSIG<'a> {
                 /// The type of the records.
-                type_covered: RecordType = record_type,
+                type_covered: RecordType, RecordType = record_type,
                 /// The algorithm.
-                algorithm: u8 = u8,
+                algorithm: u8, u8 = u8,
                 /// The number of labels of the owner, without a `*` at the start.
-                labels: u8 = u8,
+                labels: u8, u8 = u8,
                 /// The TTL of the records in their zone.
-                original_ttl: u32 = u32,
+                original_ttl: u32, u32 = u32,
                 /// When the signature expires, in seconds since 1970, as a [`SerialNumber`](crate::SerialNumber).
-                expiration: u32 = u32,
+                expiration: u32, u32 = u32,
                 /// When the signature becomes valid, in the same form.
-                inception: u32 = u32,
+                inception: u32, u32 = u32,
                 /// The tag of the key.
-                key_tag: u16 = u16,
+                key_tag: u16, u16 = u16,
                 /// The zone of the key.
-                signer: NameRef<'a> = name,
+                signer: NameRef<'a>, Name = name,
                 /// The signature.
-                signature: &'a [u8] = rest,
+                signature: &'a [u8], Vec<u8> = rest,
             }
 
             /// A key of a zone (RFC 4034, section 2.1). Also the data of KEY, RKEY and CDNSKEY.
             DNSKEY<'a> {
                 /// 256 for a zone key, 257 for a zone key that is also a secure entry point.
-                flags: u16 = u16,
+                flags: u16, u16 = u16,
                 /// Always 3.
-                protocol: u8 = u8,
+                protocol: u8, u8 = u8,
                 /// The algorithm.
-                algorithm: u8 = u8,
+                algorithm: u8, u8 = u8,
                 /// The key.
-                key: &'a [u8] = rest,
+                key: &'a [u8], Vec<u8> = rest,
             }
 
             /// A mapping between mail addresses and those of X.400 (RFC 2163, section 4).
             PX<'a> {
                 /// Lower values are preferred.
-                preference: u16 = u16,
+                preference: u16, u16 = u16,
                 /// The part that is a domain name.
-                map822: NameRef<'a> = name,
+                map822: NameRef<'a>, Name = name,
                 /// The part that is from an address of X.400.
-                mapx400: NameRef<'a> = name,
+                mapx400: NameRef<'a>, Name = name,
             }
 
             /// Where a host is, in degrees and metres (RFC 1712, section 3).
             GPOS<'a> {
                 /// The longitude.
-                longitude: &'a [u8] = string,
+                longitude: &'a [u8], Vec<u8> = string,
                 /// The latitude.
-                latitude: &'a [u8] = string,
+                latitude: &'a [u8], Vec<u8> = string,
                 /// The altitude.
-                altitude: &'a [u8] = string,
+                altitude: &'a [u8], Vec<u8> = string,
             }
 
             /// The next name in a zone and the types at this name, in an old form (RFC 2535, section 5.2).
             NXT<'a> {
                 /// The next name.
-                next: NameRef<'a> = name,
+                next: NameRef<'a>, Name = name,
                 /// A bit for each type below 128.
-                bitmap: &'a [u8] = rest,
+                bitmap: &'a [u8], Vec<u8> = rest,
             }
 
             /// The host and the port of a service (RFC 2782).
             SRV<'a> {
                 /// Lower values are tried first.
-                priority: u16 = u16,
+                priority: u16, u16 = u16,
                 /// How often the host is chosen among those of the same priority.
-                weight: u16 = u16,
+                weight: u16, u16 = u16,
                 /// The port.
-                port: u16 = u16,
+                port: u16, u16 = u16,
                 /// The host.
-                target: NameRef<'a> = name,
+                target: NameRef<'a>, Name = name,
             }
 
             /// A rule that rewrites a name (RFC 3403, section 4.1).
             NAPTR<'a> {
                 /// The order in which rules are applied.
-                order: u16 = u16,
+                order: u16, u16 = u16,
                 /// The preference among rules of the same order.
-                preference: u16 = u16,
+                preference: u16, u16 = u16,
                 /// What to do after the rule.
-                flags: &'a [u8] = string,
+                flags: &'a [u8], Vec<u8> = string,
                 /// The service.
-                service: &'a [u8] = string,
+                service: &'a [u8], Vec<u8> = string,
                 /// A regular expression that makes the next name.
-                regexp: &'a [u8] = string,
+                regexp: &'a [u8], Vec<u8> = string,
                 /// The next name.
-                replacement: NameRef<'a> = name,
+                replacement: NameRef<'a>, Name = name,
             }
 
             /// A certificate (RFC 4398, section 2).
             CERT<'a> {
                 /// The type of the certificate.
-                certificate_type: u16 = u16,
+                certificate_type: u16, u16 = u16,
                 /// The tag of its key.
-                key_tag: u16 = u16,
+                key_tag: u16, u16 = u16,
                 /// The algorithm of its key.
-                algorithm: u8 = u8,
+                algorithm: u8, u8 = u8,
                 /// The certificate.
-                certificate: &'a [u8] = rest,
+                certificate: &'a [u8], Vec<u8> = rest,
             }
 
             /// The digest of a key of a child zone (RFC 4034, section 5.1). Also the data of CDS, TA and DLV.
             DS<'a> {
                 /// The tag of the key.
-                key_tag: u16 = u16,
+                key_tag: u16, u16 = u16,
                 /// The algorithm of the key.
-                algorithm: u8 = u8,
+                algorithm: u8, u8 = u8,
                 /// The digest algorithm.
-                digest_type: u8 = u8,
+                digest_type: u8, u8 = u8,
                 /// The digest.
-                digest: &'a [u8] = rest,
+                digest: &'a [u8], Vec<u8> = rest,
             }
 
             /// The fingerprint of an SSH key (RFC 4255, section 3.1).
             SSHFP<'a> {
                 /// The algorithm of the key.
-                algorithm: u8 = u8,
+                algorithm: u8, u8 = u8,
                 /// The fingerprint algorithm.
-                fp_type: u8 = u8,
+                fp_type: u8, u8 = u8,
                 /// The fingerprint.
-                fingerprint: &'a [u8] = rest,
+                fingerprint: &'a [u8], Vec<u8> = rest,
             }
 
             /// A gateway and its key for IPsec (RFC 4025, section 2.1).
             IPSECKEY<'a> {
                 /// Lower values are preferred.
-                precedence: u8 = u8,
+                precedence: u8, u8 = u8,
                 /// The type of the gateway, the algorithm of the key, and the gateway.
-                gateway: &'a [u8] = shaped,
+                gateway: &'a [u8], Vec<u8> = rest,
                 /// The key.
-                public_key: &'a [u8] = rest,
+                public_key: &'a [u8], Vec<u8> = rest,
             }
 
             /// The next name in a zone, and the types at this name (RFC 4034, section 4.1).
             NSEC<'a> {
                 /// The next name.
-                next: NameRef<'a> = name,
+                next: NameRef<'a>, Name = name,
                 /// The types of the owner.
-                types: TypeSet = types,
+                types: TypeSet, TypeSet = types,
             }
 
             /// The next hash in a zone, and the types at this name (RFC 5155, section 3.2).
             NSEC3<'a> {
                 /// The hash algorithm.
-                algorithm: u8 = u8,
+                algorithm: u8, u8 = u8,
                 /// 1 for opt-out: unsigned delegations may be between the hashes.
-                flags: u8 = u8,
+                flags: u8, u8 = u8,
                 /// The number of additional iterations of the hash.
-                iterations: u16 = u16,
+                iterations: u16, u16 = u16,
                 /// The salt, which is appended before each iteration.
-                salt: &'a [u8] = counted,
+                salt: &'a [u8], Vec<u8> = string,
                 /// The next hash.
-                next: &'a [u8] = counted,
+                next: &'a [u8], Vec<u8> = string,
                 /// The types of the owner.
-                types: TypeSet = types,
+                types: TypeSet, TypeSet = types,
             }
 
             /// How the names of a zone are hashed (RFC 5155, section 4.2).
             NSEC3PARAM<'a> {
                 /// The hash algorithm.
-                algorithm: u8 = u8,
+                algorithm: u8, u8 = u8,
                 /// Always 0.
-                flags: u8 = u8,
+                flags: u8, u8 = u8,
                 /// The number of additional iterations of the hash.
-                iterations: u16 = u16,
+                iterations: u16, u16 = u16,
                 /// The salt, which is appended before each iteration.
-                salt: &'a [u8] = counted,
+                salt: &'a [u8], Vec<u8> = string,
             }
 
             /// A certificate of a TLS server (RFC 6698, section 2.1). Also the data of SMIMEA.
             TLSA<'a> {
                 /// The certificate usage: what has to match.
-                usage: u8 = u8,
+                usage: u8, u8 = u8,
                 /// The selector: the whole certificate, or its public key.
-                selector: u8 = u8,
+                selector: u8, u8 = u8,
                 /// The matching type: the selected content itself, or a hash of it.
-                mtype: u8 = u8,
+                mtype: u8, u8 = u8,
                 /// The content or its hash.
-                cert: &'a [u8] = rest,
+                cert: &'a [u8], Vec<u8> = rest,
             }
 
             /// The identity of a host, and its rendezvous servers (RFC 8005, section 5).
             HIP<'a> {
                 /// The length of the tag, the algorithm of the key, its length, the tag and the key.
-                identity: &'a [u8] = shaped,
+                identity: &'a [u8], Vec<u8> = rest,
                 /// The servers.
-                servers: WholeNames<'a> = whole_names,
+                servers: WholeNames<'a>, WholeNames = whole_names,
             }
 
             /// The links of a chain of trust anchors (the template TALINK of IANA's registry).
             TALINK<'a> {
                 /// The name before.
-                previous: NameRef<'a> = name,
+                previous: NameRef<'a>, Name = name,
                 /// The name after.
-                next: NameRef<'a> = name,
+                next: NameRef<'a>, Name = name,
             }
 
             /// The types that a parent zone may copy from its child (RFC 7477, section 2.1.1).
             CSYNC {
                 /// The lowest serial number of the child at which the parent may copy.
-                serial: u32 = u32,
+                serial: u32, u32 = u32,
                 /// Whether the parent may copy immediately (1), and whether the serial number is used (2).
-                flags: u16 = u16,
+                flags: u16, u16 = u16,
                 /// The types to copy.
-                types: TypeSet = types,
+                types: TypeSet, TypeSet = types,
             }
 
             /// The digest of a zone (RFC 8976, section 2.2).
             ZONEMD<'a> {
                 /// The serial number of the zone.
-                serial: u32 = u32,
+                serial: u32, u32 = u32,
                 /// How the records are collated.
-                scheme: u8 = u8,
+                scheme: u8, u8 = u8,
                 /// The hash algorithm.
-                hash_algorithm: u8 = u8,
+                hash_algorithm: u8, u8 = u8,
                 /// The digest.
-                digest: &'a [u8] = rest,
+                digest: &'a [u8], Vec<u8> = rest,
             }
 
             /// How to reach a service (RFC 9460, section 2.2). Also the data of HTTPS.
             SVCB<'a> {
                 /// 0 for an alias. Of others, lower values are preferred.
-                priority: u16 = u16,
+                priority: u16, u16 = u16,
                 /// The host, or the root for the owner itself.
-                target: NameRef<'a> = name,
+                target: NameRef<'a>, Name = name,
                 /// The parameters, each a key and its value, in ascending order of the keys.
-                params: Pairs<'a> = params,
+                params: Pairs<'a>, Pairs = params,
             }
 
             /// Where to send notifications about a delegation (RFC 9859, section 2.1).
             DSYNC<'a> {
                 /// The type that a notification is about.
-                notified_type: RecordType = record_type,
+                notified_type: RecordType, RecordType = record_type,
                 /// How to notify.
-                scheme: u8 = u8,
+                scheme: u8, u8 = u8,
                 /// The port.
-                port: u16 = u16,
+                port: u16, u16 = u16,
                 /// The host.
-                target: NameRef<'a> = name,
+                target: NameRef<'a>, Name = name,
             }
 
             /// The identifier of a node (RFC 6742, section 2.1.1).
             NID {
                 /// Lower values are preferred.
-                preference: u16 = u16,
+                preference: u16, u16 = u16,
                 /// The identifier.
-                node_id: u64 = u64,
+                node_id: u64, u64 = u64,
             }
 
             /// A locator of 32 bits (RFC 6742, section 2.2.1).
             L32 {
                 /// Lower values are preferred.
-                preference: u16 = u16,
+                preference: u16, u16 = u16,
                 /// The locator.
-                locator: Ipv4Addr = ipv4,
+                locator: Ipv4Addr, Ipv4Addr = ipv4,
             }
 
             /// A locator of 64 bits (RFC 6742, section 2.3.1).
             L64 {
                 /// Lower values are preferred.
-                preference: u16 = u16,
+                preference: u16, u16 = u16,
                 /// The locator.
-                locator: u64 = u64,
+                locator: u64, u64 = u64,
             }
 
             /// The making of a key for TSIG (RFC 2930, section 2).
             TKEY<'a> {
                 /// The algorithm.
-                algorithm: NameRef<'a> = name,
+                algorithm: NameRef<'a>, Name = name,
                 /// When the key begins to be valid, in seconds since 1970, a [`SerialNumber`](crate::SerialNumber).
-                inception: u32 = u32,
+                inception: u32, u32 = u32,
                 /// When it ends.
-                expiration: u32 = u32,
+                expiration: u32, u32 = u32,
                 /// How the key is made.
-                mode: u16 = u16,
+                mode: u16, u16 = u16,
                 /// An error, or 0.
-                error: u16 = u16,
+                error: u16, u16 = u16,
                 /// The key, or what it is made from.
-                key: &'a [u8] = long,
+                key: &'a [u8], Vec<u8> = long,
                 /// Other data.
-                other: &'a [u8] = long,
+                other: &'a [u8], Vec<u8> = long,
             }
 
             /// The signature of a message (RFC 8945, section 4.2).
             TSIG<'a> {
                 /// The algorithm.
-                algorithm: NameRef<'a> = name,
+                algorithm: NameRef<'a>, Name = name,
                 /// The time, in seconds since 1970.
-                time_signed: u64 = u48,
+                time_signed: u64, u64 = u48,
                 /// The seconds that clocks may differ.
-                fudge: u16 = u16,
+                fudge: u16, u16 = u16,
                 /// The signature.
-                mac: &'a [u8] = long,
+                mac: &'a [u8], Vec<u8> = long,
                 /// The identifier of the message that was signed.
-                original_id: u16 = u16,
+                original_id: u16, u16 = u16,
                 /// An error, or 0.
-                error: u16 = u16,
+                error: u16, u16 = u16,
                 /// Other data.
-                other: &'a [u8] = long,
+                other: &'a [u8], Vec<u8> = long,
             }
 
             /// The URI of a service (RFC 7553, section 4.2).
             URI<'a> {
                 /// Lower values are tried first.
-                priority: u16 = u16,
+                priority: u16, u16 = u16,
                 /// How often the URI is chosen among those of the same priority.
-                weight: u16 = u16,
+                weight: u16, u16 = u16,
                 /// The URI.
-                target: &'a [u8] = rest,
+                target: &'a [u8], Vec<u8> = rest,
             }
 
             /// The authorities that may issue certificates for a domain (RFC 8659, section 4.1).
             CAA<'a> {
                 /// 128 if an authority that does not know the tag must not issue.
-                flags: u8 = u8,
+                flags: u8, u8 = u8,
                 /// The tag of the property.
-                tag: &'a [u8] = string,
+                tag: &'a [u8], Vec<u8> = string,
                 /// The value of the property.
-                value: &'a [u8] = rest,
+                value: &'a [u8], Vec<u8> = rest,
             }
 
             /// A digital object (the template DOA of IANA's registry).
             DOA<'a> {
                 /// The number of the enterprise.
-                enterprise: u32 = u32,
+                enterprise: u32, u32 = u32,
                 /// The type of the object.
-                object_type: u32 = u32,
+                object_type: u32, u32 = u32,
                 /// Where the object is.
-                location: u8 = u8,
+                location: u8, u8 = u8,
                 /// Its media type.
-                media_type: &'a [u8] = string,
+                media_type: &'a [u8], Vec<u8> = string,
                 /// The object, or where it is.
-                data: &'a [u8] = rest,
+                data: &'a [u8], Vec<u8> = rest,
             }
 
             /// A relay for multicast (RFC 8777, section 4.2).
             AMTRELAY<'a> {
                 /// Lower values are preferred.
-                precedence: u8 = u8,
+                precedence: u8, u8 = u8,
                 /// A bit and 7 bits of the type of the relay, and the relay.
-                relay: &'a [u8] = shaped,
+                relay: &'a [u8], Vec<u8> = rest,
             }
         }
     };
@@ -413,66 +413,66 @@ macro_rules! each_variant {
         $then! {
             one {
                 /// An IPv4 address (RFC 1035, section 3.4.1).
-                A = 1: Ipv4Addr = ipv4,
+                A = 1: Ipv4Addr, Ipv4Addr = ipv4,
                 /// A name server of a zone (RFC 1035, section 3.3.11).
-                NS = 2: NameRef<'a> = name,
+                NS = 2: NameRef<'a>, Name = name,
                 /// A host that takes mail, which is obsolete (RFC 1035, section 3.3.4).
-                MD = 3: NameRef<'a> = name,
+                MD = 3: NameRef<'a>, Name = name,
                 /// A host that forwards mail, which is obsolete (RFC 1035, section 3.3.5).
-                MF = 4: NameRef<'a> = name,
+                MF = 4: NameRef<'a>, Name = name,
                 /// The canonical name of an alias (RFC 1035, section 3.3.1).
-                CNAME = 5: NameRef<'a> = name,
+                CNAME = 5: NameRef<'a>, Name = name,
                 /// A host of a mailbox (RFC 1035, section 3.3.3).
-                MB = 7: NameRef<'a> = name,
+                MB = 7: NameRef<'a>, Name = name,
                 /// A member of a group of mailboxes (RFC 1035, section 3.3.6).
-                MG = 8: NameRef<'a> = name,
+                MG = 8: NameRef<'a>, Name = name,
                 /// The new name of a mailbox (RFC 1035, section 3.3.8).
-                MR = 9: NameRef<'a> = name,
+                MR = 9: NameRef<'a>, Name = name,
                 /// A pointer to another name (RFC 1035, section 3.3.12).
-                PTR = 12: NameRef<'a> = name,
+                PTR = 12: NameRef<'a>, Name = name,
                 /// Texts (RFC 1035, section 3.3.14).
-                TXT = 16: Texts<'a> = texts,
+                TXT = 16: Texts<'a>, Texts = texts,
                 /// An address of X.25 (RFC 1183, section 3.1).
-                X25 = 19: &'a [u8] = string,
+                X25 = 19: &'a [u8], Vec<u8> = string,
                 /// An address of ISDN, and a subaddress if there is one (RFC 1183, section 3.2).
-                ISDN = 20: Texts<'a> = texts,
+                ISDN = 20: Texts<'a>, Texts = texts,
                 /// An address of OSI (RFC 1706, section 5).
-                NSAP = 22: &'a [u8] = rest,
+                NSAP = 22: &'a [u8], Vec<u8> = rest,
                 /// The name of an address of OSI (RFC 1706, section 6).
-                NSAPPTR = 23: NameRef<'a> = name,
+                NSAPPTR = 23: NameRef<'a>, Name = name,
                 /// An IPv6 address (RFC 3596, section 2.2).
-                AAAA = 28: Ipv6Addr = ipv6,
+                AAAA = 28: Ipv6Addr, Ipv6Addr = ipv6,
                 /// A location: 16 octets if the first, the version, is 0 (RFC 1876, section 2).
-                LOC = 29: &'a [u8] = shaped,
+                LOC = 29: &'a [u8], Vec<u8> = rest,
                 /// The name that a subtree is an alias of (RFC 6672, section 2.1).
-                DNAME = 39: NameRef<'a> = name,
+                DNAME = 39: NameRef<'a>, Name = name,
                 /// Address prefixes (RFC 3123, section 4).
-                APL = 42: Prefixes<'a> = prefixes,
+                APL = 42: Prefixes<'a>, Prefixes = prefixes,
                 /// Which client of DHCP owns a name (RFC 4701, section 3.1).
-                DHCID = 49: &'a [u8] = rest,
+                DHCID = 49: &'a [u8], Vec<u8> = rest,
                 /// The state of a zone (the template NINFO of IANA's registry).
-                NINFO = 56: Texts<'a> = texts,
+                NINFO = 56: Texts<'a>, Texts = texts,
                 /// The identity of a host, in a hierarchy (RFC 9886, section 5.1).
-                HHIT = 67: &'a [u8] = rest,
+                HHIT = 67: &'a [u8], Vec<u8> = rest,
                 /// The identity of an unmanned aircraft (RFC 9886, section 5.2).
-                BRID = 68: &'a [u8] = rest,
+                BRID = 68: &'a [u8], Vec<u8> = rest,
                 /// SPF texts (RFC 4408, section 3.1.1), now in TXT records (RFC 7208, section 3.1).
-                SPF = 99: Texts<'a> = texts,
+                SPF = 99: Texts<'a>, Texts = texts,
                 /// An EUI-48 address (RFC 7043, section 3.1).
-                EUI48 = 108: [u8; 6] = eui48,
+                EUI48 = 108: [u8; 6], [u8; 6] = eui48,
                 /// An EUI-64 address (RFC 7043, section 4.1).
-                EUI64 = 109: [u8; 8] = eui64,
+                EUI64 = 109: [u8; 8], [u8; 8] = eui64,
                 /// What is known of an application (the template AVC of IANA's registry).
-                AVC = 258: Texts<'a> = texts,
+                AVC = 258: Texts<'a>, Texts = texts,
                 /// What a resolver says of itself (RFC 9606, section 4).
-                RESINFO = 261: Texts<'a> = texts,
+                RESINFO = 261: Texts<'a>, Texts = texts,
                 /// A public address of a wallet (the template WALLET of IANA's registry).
-                WALLET = 262: Texts<'a> = texts,
+                WALLET = 262: Texts<'a>, Texts = texts,
                 /// The convergence layer adapters of a node of the Bundle Protocol (the template CLA of IANA's
                 /// registry).
-                CLA = 263: Texts<'a> = texts,
+                CLA = 263: Texts<'a>, Texts = texts,
                 /// A node of the Bundle Protocol (the template IPN of IANA's registry).
-                IPN = 264: u64 = u64,
+                IPN = 264: u64, u64 = u64,
             }
             several {
                 /// The start of a zone of authority (RFC 1035, section 3.3.13).

@@ -1,5 +1,6 @@
 //! Why an entry of a zone file is not valid, and where.
-use crate::error::Error;
+#[cfg(feature = "std")]
+use crate::Error;
 use crate::StdError;
 use alloc::boxed::Box;
 use alloc::format;
@@ -28,6 +29,7 @@ const SHOWN: usize = 500;
 /// ```
 pub struct ZoneError(Box<Fault>);
 
+#[derive(Default)]
 struct Fault {
     #[cfg(feature = "std")]
     path: Option<PathBuf>,
@@ -36,49 +38,20 @@ struct Fault {
     column: usize,
     sentence: String,
     text: String,
-    cause: Option<Cause>,
-}
-
-/// What an error comes from, if it is not the text.
-#[derive(Debug)]
-pub(super) enum Cause {
-    Library(Error),
-    #[cfg(feature = "std")]
-    Io(io::Error),
-}
-
-impl From<Error> for Cause {
-    fn from(error: Error) -> Self {
-        Cause::Library(error)
-    }
-}
-
-#[cfg(feature = "std")]
-impl From<io::Error> for Cause {
-    fn from(error: io::Error) -> Self {
-        Cause::Io(error)
-    }
+    /// what it comes from, if it is not the text
+    cause: Option<Box<dyn StdError + Send + Sync>>,
 }
 
 impl ZoneError {
     /// Returns the error at an offset of a text, which has this offset, line and column in the file.
     pub(super) fn new(place: (usize, usize, usize), text: &[u8], offset: usize, sentence: String) -> Self {
         let ((offset, line, column), text) = (place, line_at(text, offset));
-        ZoneError(Box::new(Fault {
-            #[cfg(feature = "std")]
-            path: None,
-            offset,
-            line,
-            column,
-            sentence,
-            text,
-            cause: None,
-        }))
+        ZoneError(Box::new(Fault { offset, line, column, sentence, text, ..Fault::default() }))
     }
 
     /// Returns the same error with what it comes from.
-    pub(super) fn caused_by(mut self, cause: impl Into<Cause>) -> Self {
-        self.0.cause = Some(cause.into());
+    pub(super) fn caused_by(mut self, cause: impl StdError + Send + Sync + 'static) -> Self {
+        self.0.cause = Some(Box::new(cause));
         self
     }
 
@@ -142,11 +115,7 @@ impl fmt::Debug for ZoneError {
 /// valid has no source.
 impl StdError for ZoneError {
     fn source(&self) -> Option<&(dyn StdError + 'static)> {
-        match self.0.cause.as_ref()? {
-            Cause::Library(error) => Some(error),
-            #[cfg(feature = "std")]
-            Cause::Io(error) => Some(error),
-        }
+        self.0.cause.as_deref().map(|cause| cause as &(dyn StdError + 'static))
     }
 }
 
@@ -163,12 +132,11 @@ impl StdError for ZoneError {
 #[cfg(feature = "std")]
 impl From<ZoneError> for io::Error {
     fn from(error: ZoneError) -> Self {
-        let kind = match &error.0.cause {
-            None => io::ErrorKind::InvalidData,
-            Some(Cause::Library(error)) => io::Error::from(*error).kind(),
-            Some(Cause::Io(error)) => error.kind(),
-        };
-        io::Error::new(kind, error)
+        let cause = error.source();
+        let of_file = cause.and_then(|cause| cause.downcast_ref::<io::Error>()).map(io::Error::kind);
+        let of_library =
+            cause.and_then(|cause| cause.downcast_ref::<Error>()).map(|error| io::Error::from(*error).kind());
+        io::Error::new(of_file.or(of_library).unwrap_or(io::ErrorKind::InvalidData), error)
     }
 }
 

@@ -1,7 +1,6 @@
 //! Zone files with the files that they include.
 use super::{ZoneError, ZoneInclude, ZoneItem, ZoneStream};
-use crate::name::Name;
-use crate::record_buf::RecordBuf;
+use crate::{Name, RecordBuf};
 use std::fs::{File, Metadata};
 use std::io;
 use std::iter::FusedIterator;
@@ -67,7 +66,7 @@ impl ZoneFile {
     ///
     /// # Errors
     ///
-    /// Those of [`File::open`].
+    /// Those of [`File::open`]; or one of kind `InvalidData` if the origin is not fully qualified.
     ///
     /// ```
     /// use dns_names_wire::ZoneFile;
@@ -78,6 +77,7 @@ impl ZoneFile {
     /// ```
     pub fn open(path: impl AsRef<Path>, origin: &Name) -> io::Result<Self> {
         let path = path.as_ref().to_path_buf();
+        origin.whole_wire()?;
         let file = File::open(&path)?;
         let id = file.metadata()?.into();
         let first = OpenFile { path, id, entries: ZoneStream::new(file, origin) };
@@ -86,6 +86,13 @@ impl ZoneFile {
 
     /// Sets the TTL of records for which the files state none, as
     /// [`ZoneReader::default_ttl`](crate::ZoneReader::default_ttl) does. It is called before the first record is taken.
+    ///
+    /// ```no_run
+    /// use dns_names_wire::ZoneFile;
+    ///
+    /// let zone = ZoneFile::open("example.zone", &"example.".parse()?)?.default_ttl(3600);
+    /// # Ok::<(), Box<dyn std::error::Error>>(())
+    /// ```
     pub fn default_ttl(self, ttl: u32) -> Self {
         let first = |file: OpenFile| OpenFile { entries: file.entries.default_ttl(ttl), ..file };
         ZoneFile { files: self.files.into_iter().map(first).collect(), ..self }
@@ -100,6 +107,13 @@ impl ZoneFile {
 
     /// Looks for all files of `$INCLUDE` in this folder, and not in that of the file that includes them. An empty path is the
     /// working directory.
+    ///
+    /// ```no_run
+    /// use dns_names_wire::ZoneFile;
+    ///
+    /// let zone = ZoneFile::open("/etc/bind/example.zone", &"example.".parse()?)?.include_from("/var/cache/bind");
+    /// # Ok::<(), Box<dyn std::error::Error>>(())
+    /// ```
     pub fn include_from(self, folder: impl Into<PathBuf>) -> Self {
         ZoneFile { folder: Some(folder.into()), ..self }
     }

@@ -1,12 +1,21 @@
 //! What zones are found to have that the standards forbid or advise against.
-use crate::error::Error;
 use crate::ffi;
-use crate::name::Name;
-use crate::record::Record;
+use crate::{Error, Name, Record};
+use alloc::vec;
 use alloc::vec::Vec;
 use core::fmt;
 
 /// What a zone is found to have. It is printed as a kind and a sentence.
+///
+/// ```
+/// use dns_names_wire::{check_zone, RecordBuf};
+///
+/// let zone = ["a. 60 SOA ns.b. h.b. 1 2 3 4 5".parse::<RecordBuf>()?];
+/// let found = check_zone(&"a.".parse()?, &zone)?;
+/// assert!(found[0].is_error() && found[0].record().is_none() && found[0].other().is_none());
+/// assert_eq!((found[0].check(), found[0].sentence()), (2, "no NS record is at the apex"));
+/// # Ok::<(), dns_names_wire::Error>(())
+/// ```
 #[derive(Clone, Copy, Debug, PartialEq, Eq, Hash)]
 pub struct ZoneFinding {
     check: u32,
@@ -81,7 +90,8 @@ impl fmt::Display for ZoneFinding {
 ///
 /// # Errors
 ///
-/// `NoMemory`, and `TooManyPointers` if the owners of all records follow more than 65536 compression pointers.
+/// `RelativeName` if the name of the zone is not fully qualified; `NoMemory`; and `TooManyPointers` if the owners of all
+/// records follow more than 65536 compression pointers.
 ///
 /// ```
 /// use dns_names_wire::{check_zone, RecordBuf};
@@ -108,8 +118,10 @@ where
         record.put(&mut list)?;
     }
     let given = |number: usize| order.get(number).map(|(given, _)| *given);
-    let found = ffi::check_zone(zone.as_wire(), &list, order.len())?;
-    Ok(found
+    // No record has more than ten findings, and the zone two.
+    let mut found = vec![ffi::ZoneFinding::ZERO; order.len().saturating_mul(10).saturating_add(2)];
+    let count = ffi::zone_check(zone.whole_wire()?, &list, &mut found)?;
+    Ok(found[..count]
         .iter()
         .map(|it| ZoneFinding {
             check: it.check,

@@ -1,6 +1,6 @@
 //! Zone files, read in parts.
 use super::{Entries, Taken, ZoneError, ZoneItem};
-use crate::name::Name;
+use crate::Name;
 use std::fmt;
 use std::io::{self, Read};
 use std::iter::FusedIterator;
@@ -49,13 +49,28 @@ impl<R> ZoneStream<R> {
     pub const MAX_ENTRY: usize = 1 << 24;
 
     /// Returns an iterator over the entries of a zone file. The origin is the name of the zone: it is appended to names
-    /// without a last dot, until an `$ORIGIN` changes it.
+    /// without a last dot, until an `$ORIGIN` changes it. If it is not fully qualified itself, the one item is an error, as
+    /// that of [`ZoneReader::new`](crate::ZoneReader::new).
+    ///
+    /// ```
+    /// let zone = dns_names_wire::ZoneStream::new(&b"@ 60 NS ns\n"[..], &"example.".parse()?);
+    /// assert_eq!(zone.count(), 1);
+    /// # Ok::<(), dns_names_wire::Error>(())
+    /// ```
     pub fn new(source: R, origin: &Name) -> Self {
         ZoneStream::with_entries(source, Entries::new(origin))
     }
 
     /// Sets the TTL of records for which the file states none, as
     /// [`ZoneReader::default_ttl`](crate::ZoneReader::default_ttl) does.
+    ///
+    /// ```
+    /// use dns_names_wire::ZoneStream;
+    ///
+    /// let mut zone = ZoneStream::new(&b"@ NS ns\n"[..], &"example.".parse()?).default_ttl(60);
+    /// assert!(zone.next().unwrap().is_ok());
+    /// # Ok::<(), dns_names_wire::Error>(())
+    /// ```
     pub fn default_ttl(mut self, ttl: u32) -> Self {
         self.entries.set_default_ttl(ttl);
         self
@@ -70,6 +85,17 @@ impl<R> ZoneStream<R> {
 
     /// Returns an iterator over the entries of the file that the last item, an `$INCLUDE`, names, as
     /// [`ZoneReader::include`](crate::ZoneReader::include) does.
+    ///
+    /// ```
+    /// use dns_names_wire::{ZoneItem, ZoneStream};
+    ///
+    /// let mut zone = ZoneStream::new(&b"$TTL 60\n$INCLUDE mail.zone sub\n"[..], &"example.".parse()?);
+    /// match zone.next() {
+    ///     Some(Ok(ZoneItem::Include(it))) => assert_eq!(zone.include(&b"mx A 192.0.2.25\n"[..], it.origin()).count(), 1),
+    ///     other => panic!("{other:?}"),
+    /// }
+    /// # Ok::<(), dns_names_wire::Error>(())
+    /// ```
     pub fn include<S>(&self, source: S, origin: &Name) -> ZoneStream<S> {
         ZoneStream::with_entries(source, self.entries.include(origin))
     }
@@ -148,16 +174,12 @@ impl<R: Read> Iterator for ZoneStream<R> {
         if self.is_over {
             return None;
         }
-        match self.take() {
+        let taken = self.take();
+        self.is_over = !matches!(taken, Ok(Taken::Item));
+        match taken {
             Ok(Taken::Item) => Some(self.entries.item(&self.window[..self.start])),
-            Ok(_) => {
-                self.is_over = true;
-                None
-            }
-            Err(error) => {
-                self.is_over = true;
-                Some(Err(error))
-            }
+            Ok(_) => None,
+            Err(error) => Some(Err(error)),
         }
     }
 }

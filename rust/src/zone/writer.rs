@@ -1,8 +1,6 @@
 //! Zone files, written record by record.
-use crate::error::Error;
 use crate::ffi;
-use crate::name::Name;
-use crate::record::Record;
+use crate::{Error, Name, Record};
 use alloc::string::String;
 use alloc::vec::Vec;
 use core::{fmt, mem, str};
@@ -40,9 +38,18 @@ impl ZoneWriter {
     ///
     /// # Errors
     ///
-    /// `NoMemory`.
+    /// `RelativeName` if the name is not fully qualified; or `NoMemory`.
+    ///
+    /// ```
+    /// use dns_names_wire::{ErrorKind, ZoneWriter};
+    ///
+    /// assert_eq!(ZoneWriter::new(&"example.".parse()?)?.text(), "$ORIGIN example.\n");
+    /// assert_eq!(ZoneWriter::new(&"example".parse()?).unwrap_err().kind(), ErrorKind::RelativeName);
+    /// # Ok::<(), dns_names_wire::Error>(())
+    /// ```
     pub fn new(origin: &Name) -> Result<Self, Error> {
-        let mut writer = ZoneWriter { zone: ffi::begin_zone(origin.as_wire())?, text: Vec::new() };
+        let mut writer = ZoneWriter { zone: ffi::Zone::ZERO, text: Vec::new() };
+        ffi::zone_begin(origin.whole_wire()?, &mut writer.zone)?;
         writer.push_origin(origin)?;
         Ok(writer)
     }
@@ -51,7 +58,7 @@ impl ZoneWriter {
     ///
     /// # Errors
     ///
-    /// `NoMemory`.
+    /// `RelativeName` if the name is not fully qualified; or `NoMemory`.
     ///
     /// ```
     /// use dns_names_wire::{RecordBuf, ZoneWriter};
@@ -63,7 +70,8 @@ impl ZoneWriter {
     /// # Ok::<(), dns_names_wire::Error>(())
     /// ```
     pub fn push_origin(&mut self, origin: &Name) -> Result<(), Error> {
-        ffi::put_zone_origin(origin.as_wire(), &mut self.zone, &mut self.text)
+        let (origin, zone) = (origin.whole_wire()?, &mut self.zone);
+        ffi::append(&mut self.text, ffi::USUAL_SIZE, |room| ffi::zone_put_origin(origin, zone, room))
     }
 
     /// Adds a `$TTL`. Records after it are written without their TTL if it is this one.
@@ -81,7 +89,8 @@ impl ZoneWriter {
     /// # Ok::<(), dns_names_wire::Error>(())
     /// ```
     pub fn push_ttl(&mut self, ttl: u32) -> Result<(), Error> {
-        ffi::put_zone_ttl(ttl, &mut self.zone, &mut self.text)
+        let zone = &mut self.zone;
+        ffi::append(&mut self.text, ffi::USUAL_SIZE, |room| ffi::zone_put_ttl(ttl, zone, room))
     }
 
     /// Adds a record. Data that are not those of their type are written in the form of any data (RFC 3597, section 5).
@@ -100,7 +109,10 @@ impl ZoneWriter {
     /// ```
     pub fn push<'r>(&mut self, record: impl Into<Record<'r>>) -> Result<(), Error> {
         let (message, start) = record.into().place();
-        ffi::put_zone_record(message, start, &mut self.zone, &mut self.text)
+        let zone = &mut self.zone;
+        ffi::append(&mut self.text, ffi::USUAL_SIZE, |room| {
+            ffi::zone_put_record(message, start, zone, room).map(|it| it.len)
+        })
     }
 
     /// Returns the text that was not taken.
