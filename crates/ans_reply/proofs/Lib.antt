@@ -1,0 +1,5 @@
+pub mod Ranges
+pub mod Once
+pub mod Servers
+pub mod Octets
+pub mod Saying
