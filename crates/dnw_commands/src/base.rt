@@ -17,11 +17,11 @@ mod window;
 /// The words after a command: its options, in any order, and the others.
 mod words;
 
-pub(crate) use given::{Octets, all_of, contents, octets_of, open, unread, word_octets};
+pub(crate) use given::{Stream, all_of, contents, octets_of, open, unread, word_octets};
 pub(crate) use misuse::Misuse;
 pub(crate) use output::{Output, Sink, said_of};
 pub(crate) use plain::{plain, push_octet};
 pub(crate) use progress::{Progress, Watch};
 pub(crate) use refusal::Refusal;
-pub(crate) use window::{Window, line_len};
+pub(crate) use window::line_len;
 pub(crate) use words::{Given, Known};

@@ -38,12 +38,23 @@ pub fn run<
     T: Write + Drop,
 >(env: &E, input: &mut I, out: W, errors: X, terminal: T, is_terminal: bool) -> u8 {
     let mut progress = Progress::new(env.alloc(), env, terminal, is_terminal);
-    let mut out = Output::new(env.alloc(), out, errors);
+    let out = Output::new(env.alloc(), out, errors);
+    status_of(env, input, out, &mut progress)
+}
+
+/// Does what the program's words ask for, and returns the exit status.
+fn status_of<
+    E: Env + Files + RandomSource + AllocGlobal,
+    I: Read,
+    W: Write + Drop,
+    X: Write + Drop,
+    P: Watch,
+>(env: &E, input: &mut I, mut out: Output<W, X>, watch: &mut P) -> u8 {
     let answered = match words(env) {
-        Ok(words) => answer(env, words.as_slice(), input, &mut out, &mut progress),
+        Ok(words) => answer(env, words.as_slice(), input, &mut out, watch),
         Err(refusal) => Err(refusal),
     };
-    progress.ends();
+    watch.ends();
     out.finish(answered)
 }
 

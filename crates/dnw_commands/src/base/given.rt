@@ -10,44 +10,64 @@ use crate::base::refusal::Refusal;
 use crate::base::window::Window;
 use dns_names_wire::ProtoError;
 use hex::FromHexError;
-use std::alloc::Global;
+use std::alloc::{AllocError, Global};
 use std::io::Read;
 use std::rt::Files;
 use std::{fs, io};
 
-/// Where octets come from.
+/// A file that is open, or standard input, and what of it is read and not taken yet.
 #[derive(Drop)]
-pub(crate) enum Octets<'a, I, F> {
-    /// A word.
-    Word(&'a [u8]),
-    /// Standard input.
-    Input(&'a mut I),
-    /// A file that is open.
-    File(F),
+pub(crate) struct Stream<F> {
+    /// The file, or `None` for standard input, which whoever reads gives to each call.
+    file: Option<F>,
+    /// What is read.
+    pub(crate) window: Window,
 }
 
-impl<I: Read, F: Read> Read for Octets<'_, I, F> {
-    fn read(&mut self, buf: &mut [u8]) -> io::Result<usize> {
-        match self {
-            Octets::Word(octets) => octets.read(buf),
-            Octets::Input(input) => input.read(buf),
-            Octets::File(file) => file.read(buf),
+impl<F: Read> Stream<F> {
+    /// Creates one of a file of which nothing is read.
+    pub(crate) fn of_file(alloc: Global, file: F) -> Self {
+        Stream {
+            file: Some(file),
+            window: Window::new(alloc),
+        }
+    }
+
+    /// Creates one of these octets, which are all.
+    pub(crate) fn whole(alloc: Global, octets: &[u8]) -> Result<Self, AllocError> {
+        let window = Window::whole(alloc, octets)?;
+        Ok(Stream { file: None, window })
+    }
+
+    /// Reads more, as [`Window::fill`] does.
+    pub(crate) fn fill<I: Read>(&mut self, input: &mut I) -> io::Result<()> {
+        match &mut self.file {
+            Some(file) => self.window.fill(file),
+            None => self.window.fill(input),
+        }
+    }
+
+    /// Reads on until so many octets are there, or all is read.
+    pub(crate) fn fill_to<I: Read>(&mut self, input: &mut I, len: usize) -> io::Result<()> {
+        match &mut self.file {
+            Some(file) => self.window.fill_to(file, len),
+            None => self.window.fill_to(input, len),
         }
     }
 }
 
 /// Opens a file, or standard input if the file is `-`.
-pub(crate) fn open<'a, E: Files, I: Read>(
+pub(crate) fn open<E: Files>(
     env: &E,
     alloc: Global,
     file: &str,
-    input: &'a mut I,
-) -> Result<Window<Octets<'a, I, E::File>>, Refusal> {
+) -> Result<Stream<E::File>, Refusal> {
     if file == "-" {
-        return Ok(Window::new(alloc, Octets::Input(input)));
+        let window = Window::new(alloc);
+        return Ok(Stream { file: None, window });
     }
     match fs::open(env, file) {
-        Ok(opened) => Ok(Window::new(alloc, Octets::File(opened))),
+        Ok(opened) => Ok(Stream::of_file(alloc, opened)),
         Err(error) => Err(unread(alloc, file, error)),
     }
 }
@@ -68,24 +88,26 @@ pub(crate) fn contents<E: Files, I: Read>(
     file: &str,
     input: &mut I,
 ) -> Result<Vec<u8>, Refusal> {
-    let mut window = open(env, alloc, file, input)?;
-    all_of(alloc, file, &mut window, usize::MAX)
+    let mut stream = open(env, alloc, file)?;
+    all_of(alloc, file, &mut stream, usize::MAX, input)
 }
 
 /// All octets of a file, if these are at most so many.
-pub(crate) fn all_of<R: Read>(
+pub(crate) fn all_of<F: Read, I: Read>(
     alloc: Global,
     file: &str,
-    window: &mut Window<R>,
+    stream: &mut Stream<F>,
     most: usize,
+    input: &mut I,
 ) -> Result<Vec<u8>, Refusal> {
-    if let Err(error) = window.fill_to(most.saturating_add(1)) {
+    if let Err(error) = stream.fill_to(input, most.saturating_add(1)) {
         return Err(unread(alloc, file, error));
     }
-    if most < window.left().len() {
+    let octets = stream.window.left();
+    if most < octets.len() {
         return Err(Refusal::TooLong(most));
     }
-    Ok(Vec::from_slice(alloc, window.left())?)
+    Ok(Vec::from_slice(alloc, octets)?)
 }
 
 /// Returns the octets that a word of hexadecimal digits stands for.

@@ -1,7 +1,7 @@
 //! Octets that are read in parts, of which only what is wanted is kept.
 ghost use Rattle.std.specs.Prelude.{◌≡◌, drop};
 
-use std::alloc::Global;
+use std::alloc::{AllocError, Global};
 use std::io;
 use std::io::{ErrorKind, Read};
 
@@ -10,8 +10,7 @@ const PART: usize = 65_536;
 
 /// Octets that are read in parts: what is read and not taken yet.
 #[derive(Drop)]
-pub(crate) struct Window<R> {
-    from: R,
+pub(crate) struct Window {
     /// What is read, and then taken up to `start`.
     octets: Vec<u8>,
     start: usize,
@@ -23,17 +22,24 @@ pub(crate) struct Window<R> {
     high: Option<u8>,
 }
 
-impl<R: Read> Window<R> {
+impl Window {
     /// Creates a window of which nothing is read.
-    pub(crate) fn new(alloc: Global, from: R) -> Self {
+    pub(crate) fn new(alloc: Global) -> Self {
         Window {
-            from,
             octets: Vec::new(alloc),
             start: 0,
             is_done: false,
             is_text: false,
             high: None,
         }
+    }
+
+    /// Creates one of these octets, which are all.
+    pub(crate) fn whole(alloc: Global, octets: &[u8]) -> Result<Self, AllocError> {
+        let mut window = Window::new(alloc);
+        window.octets.extend_from_slice(octets)?;
+        window.is_done = true;
+        Ok(window)
     }
 
     /// Returns what is read and not taken.
@@ -60,15 +66,15 @@ impl<R: Read> Window<R> {
         self.decode_from(self.start)
     }
 
-    /// Reads more, if not all is read. It fails with `InvalidData` if that is no text of hexadecimal digits, and should be one.
-    pub(crate) fn fill(&mut self) -> io::Result<()> {
+    /// Reads more of these octets, if not all is read. It fails with `InvalidData` if that is no text of hexadecimal digits, and should be one.
+    pub(crate) fn fill<R: Read>(&mut self, from: &mut R) -> io::Result<()> {
         let taken = self.start.min(self.octets.len());
         self.octets.drain(..taken);
         self.start = 0;
         let len = self.octets.len();
         self.octets.resize(len.saturating_add(PART), 0)?;
         let found = match self.octets.as_mut_slice().get_mut(len..) {
-            Some(room) => self.from.read(room),
+            Some(room) => from.read(room),
             None => Ok(0),
         };
         let count = match &found {
@@ -86,12 +92,12 @@ impl<R: Read> Window<R> {
     }
 
     /// Reads on until so many octets are there, or all is read.
-    pub(crate) fn fill_to(&mut self, len: usize) -> io::Result<()> {
+    pub(crate) fn fill_to<R: Read>(&mut self, from: &mut R, len: usize) -> io::Result<()> {
         for _ in 0..u64::MAX {
             if self.is_done || len <= self.left().len() {
                 break;
             }
-            self.fill()?;
+            self.fill(from)?;
         }
         Ok(())
     }

@@ -1,6 +1,6 @@
 //! What the words after `dnw message` ask for.
 
-use crate::base::{Given, Known, Octets, Refusal, Sink, Window, all_of, octets_of, open, said_of};
+use crate::base::{Given, Known, Refusal, Sink, Stream, all_of, octets_of, open, said_of};
 use crate::messages::page::Page;
 use dns_names_wire::message::MessageRef;
 use dns_names_wire::message_text::{message_json, message_text};
@@ -91,32 +91,27 @@ fn show<E: Files, I: Read, O: Sink>(
     page: &mut Page,
     out: &mut O,
 ) -> Result<(), Refusal> {
-    let mut window = opened(env, alloc, source, input)?;
+    let mut stream = opened(env, alloc, source)?;
     match form {
         Form::One => {
-            let given = all_of(alloc, source, &mut window, MAX_TEXT)?;
+            let given = all_of(alloc, source, &mut stream, MAX_TEXT, input)?;
             let message = message_octets(alloc, given)?;
             let text = shown(alloc, message.as_slice(), page.layout)?;
             page.add(alloc, Ok(text), out)
         }
-        Form::Lines => page.add_lines(alloc, source, &mut window, out),
-        Form::Framed => page.add_frames(alloc, source, &mut window, out),
+        Form::Lines => page.add_lines(alloc, source, &mut stream, input, out),
+        Form::Framed => page.add_frames(alloc, source, &mut stream, input, out),
     }
 }
 
 /// Opens a source: a word of hexadecimal digits alone has itself, and another is the name of a file, or `-`.
-fn opened<'a, E: Files, I: Read>(
-    env: &E,
-    alloc: Global,
-    source: &'a str,
-    input: &'a mut I,
-) -> Result<Window<Octets<'a, I, E::File>>, Refusal> {
+fn opened<E: Files>(env: &E, alloc: Global, source: &str) -> Result<Stream<E::File>, Refusal> {
     for byte in source.as_bytes() {
         if !byte.is_ascii_hexdigit() {
-            return open(env, alloc, source, input);
+            return open(env, alloc, source);
         }
     }
-    Ok(Window::new(alloc, Octets::Word(source.as_bytes())))
+    Ok(Stream::whole(alloc, source.as_bytes())?)
 }
 
 /// The octets of a message. If all that is given is hexadecimal digits, spaces and ends of lines, the digits are the octets; else

@@ -1,6 +1,6 @@
 //! Many messages, one after the other.
 
-use crate::base::{Refusal, Sink, Window, line_len, octets_of, unread};
+use crate::base::{Refusal, Sink, Stream, line_len, octets_of, unread};
 use crate::messages::command::{Layout, MAX_TEXT, shown};
 use std::alloc::Global;
 use std::io::{ErrorKind, Read};
@@ -29,14 +29,16 @@ impl Page {
     }
 
     /// Adds the messages of a text that has each as a line of hexadecimal digits, in which white space says nothing.
-    pub(crate) fn add_lines<R: Read, O: Sink>(
+    pub(crate) fn add_lines<F: Read, I: Read, O: Sink>(
         &mut self,
         alloc: Global,
         source: &str,
-        text: &mut Window<R>,
+        stream: &mut Stream<F>,
+        input: &mut I,
         out: &mut O,
     ) -> Result<(), Refusal> {
         for _ in 0..u64::MAX {
+            let text = &mut stream.window;
             if let Some(len) = line_len(text.left()) {
                 self.add_line(alloc, text.left().get(..len).unwrap_or_default(), out)?;
                 text.take(len.saturating_add(1));
@@ -47,7 +49,7 @@ impl Page {
                 return self.add_line(alloc, text.left(), out);
             } else {
                 out.flush()?;
-                filled(alloc, source, text)?;
+                filled(alloc, source, stream, input)?;
             }
         }
         Ok(())
@@ -97,43 +99,46 @@ impl Page {
 
     /// Adds the messages of a stream that has the length of each in two octets before it. If it begins with hexadecimal digits and
     /// white space alone, so many as a length and a header have, these stand for its octets.
-    pub(crate) fn add_frames<R: Read, O: Sink>(
+    pub(crate) fn add_frames<F: Read, I: Read, O: Sink>(
         &mut self,
         alloc: Global,
         source: &str,
-        given: &mut Window<R>,
+        stream: &mut Stream<F>,
+        input: &mut I,
         out: &mut O,
     ) -> Result<(), Refusal> {
-        if let Err(error) = given.fill_to(FRONT) {
+        if let Err(error) = stream.fill_to(input, FRONT) {
             return Err(unread(alloc, source, error));
         }
-        if are_digits(given.left()) && given.decode().is_err() {
+        if are_digits(stream.window.left()) && stream.window.decode().is_err() {
             return Err(Refusal::Digits);
         }
-        self.add_binary(alloc, source, given, out)
+        self.add_binary(alloc, source, stream, input, out)
     }
 
     /// Adds the messages of a stream, and a line if it ends within one.
-    fn add_binary<R: Read, O: Sink>(
+    fn add_binary<F: Read, I: Read, O: Sink>(
         &mut self,
         alloc: Global,
         source: &str,
-        stream: &mut Window<R>,
+        stream: &mut Stream<F>,
+        input: &mut I,
         out: &mut O,
     ) -> Result<(), Refusal> {
         for _ in 0..u64::MAX {
-            if let Some(message) = frame_of(stream.left()) {
+            let window = &mut stream.window;
+            if let Some(message) = frame_of(window.left()) {
                 let len = message.len();
                 self.add(alloc, shown(alloc, message, self.layout), out)?;
-                stream.take(len.saturating_add(2));
-            } else if stream.is_done() {
+                window.take(len.saturating_add(2));
+            } else if window.is_done() {
                 break;
             } else {
                 out.flush()?;
-                filled(alloc, source, stream)?;
+                filled(alloc, source, stream, input)?;
             }
         }
-        match cut_of(stream.left()) {
+        match cut_of(stream.window.left()) {
             Some(cut) => self.add(alloc, Err(cut), out),
             None => Ok(()),
         }
@@ -175,8 +180,13 @@ impl Page {
 }
 
 /// Reads more of a source.
-fn filled<R: Read>(alloc: Global, source: &str, window: &mut Window<R>) -> Result<(), Refusal> {
-    match window.fill() {
+fn filled<F: Read, I: Read>(
+    alloc: Global,
+    source: &str,
+    stream: &mut Stream<F>,
+    input: &mut I,
+) -> Result<(), Refusal> {
+    match stream.fill(input) {
         Ok(()) => Ok(()),
         Err(error) if error.kind() == ErrorKind::InvalidData => Err(Refusal::Digits),
         Err(error) => Err(unread(alloc, source, error)),

@@ -1,6 +1,6 @@
 //! The names in the lines of files, each shown as soon as its line is there.
 
-use crate::base::{Refusal, Sink, Window, line_len, open, unread};
+use crate::base::{Refusal, Sink, Stream, line_len, open, unread};
 use crate::names::shown::{Shown, line};
 use std::alloc::Global;
 use std::io::Read;
@@ -20,8 +20,9 @@ pub(crate) fn put_lines_of<E: Files, I: Read, O: Sink>(
     input: &mut I,
     out: &mut O,
 ) -> Result<(), Refusal> {
-    let mut window = open(env, alloc, file, input)?;
+    let mut stream = open(env, alloc, file)?;
     for _ in 0..u64::MAX {
+        let window = &mut stream.window;
         if let Some(len) = line_len(window.left()) {
             put_word(
                 alloc,
@@ -33,24 +34,28 @@ pub(crate) fn put_lines_of<E: Files, I: Read, O: Sink>(
         } else if window.is_done() {
             return put_word(alloc, shown, window.left(), out);
         } else {
-            more(alloc, file, &mut window, out)?;
+            more(alloc, file, &mut stream, input, out)?;
         }
     }
     Ok(())
 }
 
 /// Reads more of a file, whose next line does not end yet.
-fn more<R: Read, O: Sink>(
+fn more<F: Read, I: Read, O: Sink>(
     alloc: Global,
     file: &str,
-    window: &mut Window<R>,
+    stream: &mut Stream<F>,
+    input: &mut I,
     out: &mut O,
 ) -> Result<(), Refusal> {
-    if MAX_LINE < window.left().len() {
+    if MAX_LINE < stream.window.left().len() {
         return Err(Refusal::TooLong(MAX_LINE));
     }
     out.flush()?;
-    window.fill().map_err(|error| unread(alloc, file, error))
+    match stream.fill(input) {
+        Ok(()) => Ok(()),
+        Err(error) => Err(unread(alloc, file, error)),
+    }
 }
 
 /// Shows the line of a name, or why it has none. An empty line has none.

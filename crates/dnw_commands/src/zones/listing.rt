@@ -56,14 +56,14 @@ impl ZoneFile<'_> {
     }
 
     /// Reads all of the zone file, and of the files that it includes.
-    fn read<'i, E: Files + AllocGlobal, I: Read, O: Sink, P: Watch>(
+    fn read<E: Files + AllocGlobal, I: Read, O: Sink, P: Watch>(
         &self,
         env: &E,
         alloc: Global,
-        input: &'i mut I,
+        input: &mut I,
         out: &mut O,
         watch: &mut P,
-    ) -> Result<Reading<'i, I, E::File>, Refusal> {
+    ) -> Result<Reading<E::File>, Refusal> {
         let origin = Name::from_text(alloc, self.origin, None)?;
         let records = Listed::new(alloc, self.wanted, Context::new(origin.copied()));
         let mut reading = Reading {
@@ -73,10 +73,10 @@ impl ZoneFile<'_> {
             inclusions: Inclusions::new(env, alloc, self.file, self.folders)?,
             generating: self.wanted.generating(),
         };
-        let first = self.first(env, alloc, origin, input)?;
+        let first = self.first(env, alloc, origin)?;
         reading.open(first)?;
         for _ in 0..u64::MAX {
-            if !reading.step(env, alloc, out, watch)? {
+            if !reading.step(env, alloc, input, out, watch)? {
                 break;
             }
         }
@@ -84,20 +84,19 @@ impl ZoneFile<'_> {
     }
 
     /// Opens the zone file.
-    fn first<'i, E: Files, I: Read>(
+    fn first<E: Files>(
         &self,
         env: &E,
         alloc: Global,
         origin: Name,
-        input: &'i mut I,
-    ) -> Result<Source<'i, I, E::File>, Refusal> {
+    ) -> Result<Source<E::File>, Refusal> {
         let mut context = Context::new(origin);
         context.fallback_ttl = self.wanted.ttl;
         Ok(Source {
             name: plain(alloc, self.file)?,
             number: 0,
             path: self.base(env, alloc)?,
-            text: open(env, alloc, self.file, input)?,
+            text: open(env, alloc, self.file)?,
             used: 0,
             len: len_of(env, self.file),
             place: TextPlace { line: 0, column: 0 },
@@ -138,9 +137,9 @@ fn len_of<E: Files>(env: &E, file: &str) -> u64 {
 
 /// Zone files that are being read, and what was read of them.
 #[derive(Drop)]
-struct Reading<'i, I, F> {
+struct Reading<F> {
     /// The files that are open, each but the first included by the one before it.
-    sources: Vec<Source<'i, I, F>>,
+    sources: Vec<Source<F>>,
     /// The names of all files that were opened.
     files: Vec<String>,
     lines: Lines,
@@ -149,9 +148,9 @@ struct Reading<'i, I, F> {
     generating: Generating,
 }
 
-impl<'i, I: Read, F: Read + Drop> Reading<'i, I, F> {
+impl<F: Read + Drop> Reading<F> {
     /// Opens a file, whose entries come next.
-    fn open(&mut self, mut source: Source<'i, I, F>) -> Result<(), Refusal> {
+    fn open(&mut self, mut source: Source<F>) -> Result<(), Refusal> {
         source.number = self.files.len();
         self.files.push(source.name.clone()?)?;
         self.sources.push(source)?;
@@ -159,10 +158,11 @@ impl<'i, I: Read, F: Read + Drop> Reading<'i, I, F> {
     }
 
     /// Reads the next entry, if a file is open, and returns whether one is.
-    fn step<E: Files<File = F> + AllocGlobal, O: Sink, P: Watch>(
+    fn step<E: Files<File = F> + AllocGlobal, I: Read, O: Sink, P: Watch>(
         &mut self,
         env: &E,
         alloc: Global,
+        input: &mut I,
         out: &mut O,
         watch: &mut P,
     ) -> Result<bool, Refusal> {
@@ -171,15 +171,16 @@ impl<'i, I: Read, F: Read + Drop> Reading<'i, I, F> {
         };
         let next = source.next(env, alloc, &mut self.inclusions, &mut self.lines, out)?;
         self.lines.say_errors(out, watch)?;
-        self.go_on(alloc, next, out, watch)?;
+        self.go_on(alloc, next, input, out, watch)?;
         Ok(true)
     }
 
     /// Goes on to what comes next.
-    fn go_on<O: Sink, P: Watch>(
+    fn go_on<I: Read, O: Sink, P: Watch>(
         &mut self,
         alloc: Global,
         next: Next<F>,
+        input: &mut I,
         out: &mut O,
         watch: &mut P,
     ) -> Result<(), Refusal> {
@@ -188,7 +189,7 @@ impl<'i, I: Read, F: Read + Drop> Reading<'i, I, F> {
             Next::File(included, context) => {
                 self.open(Source::included(alloc, included, context, self.generating))
             }
-            Next::More => self.read_on(alloc, out, watch),
+            Next::More => self.read_on(alloc, input, out, watch),
             Next::End => {
                 self.sources.pop();
                 self.inclusions.close();
@@ -198,16 +199,17 @@ impl<'i, I: Read, F: Read + Drop> Reading<'i, I, F> {
     }
 
     /// Reads more of the file that is read.
-    fn read_on<O: Sink, P: Watch>(
+    fn read_on<I: Read, O: Sink, P: Watch>(
         &mut self,
         alloc: Global,
+        input: &mut I,
         out: &mut O,
         watch: &mut P,
     ) -> Result<(), Refusal> {
         let Some(source) = self.sources.last_mut() else {
             return Ok(());
         };
-        source.read_on(alloc, out)?;
+        source.read_on(alloc, input, out)?;
         if self.lines.are_kept() {
             watch.is_at(source.used, source.len);
         }

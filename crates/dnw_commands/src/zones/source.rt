@@ -1,6 +1,6 @@
 //! Single zone files, entry by entry.
 
-use crate::base::{Octets, Refusal, Sink, Window, unread};
+use crate::base::{Refusal, Sink, Stream, unread};
 use crate::zones::faults::{Fault, moved};
 use crate::zones::includes::{IncludeError, Included, Inclusions, word_of};
 use crate::zones::kept::Place;
@@ -31,7 +31,7 @@ pub(crate) struct Generating {
 
 /// A zone file, and how far it is read.
 #[derive(Drop)]
-pub(crate) struct Source<'i, I, F> {
+pub(crate) struct Source<F> {
     /// The file, as its errors name it.
     pub(crate) name: String,
     /// How many files were opened before it.
@@ -39,7 +39,7 @@ pub(crate) struct Source<'i, I, F> {
     /// The path in whose folder relative paths of `$INCLUDE` begin, if files may be included.
     pub(crate) path: Option<String>,
     /// The octets of the file that are not read yet.
-    pub(crate) text: Window<Octets<'i, I, F>>,
+    pub(crate) text: Stream<F>,
     /// The number of octets that are read.
     pub(crate) used: u64,
     /// How many octets there are, or 0 if that is not known.
@@ -66,7 +66,7 @@ pub(crate) enum Next<F> {
     More,
 }
 
-impl<'i, I: Read, F: Read + Drop> Source<'i, I, F> {
+impl<F: Read + Drop> Source<F> {
     /// Creates an included file of which nothing is read.
     pub(crate) fn included(
         alloc: Global,
@@ -78,7 +78,7 @@ impl<'i, I: Read, F: Read + Drop> Source<'i, I, F> {
             name: included.name,
             number: 0,
             path: Some(included.path),
-            text: Window::new(alloc, Octets::File(included.file)),
+            text: Stream::of_file(alloc, included.file),
             used: 0,
             len: included.len,
             place: TextPlace { line: 0, column: 0 },
@@ -97,8 +97,8 @@ impl<'i, I: Read, F: Read + Drop> Source<'i, I, F> {
         lines: &mut Lines,
         out: &mut O,
     ) -> Result<Next<F>, Refusal> {
-        let text = self.text.left();
-        let is_part = !self.text.is_done();
+        let text = self.text.window.left();
+        let is_part = !self.text.window.is_done();
         let path = match &self.path {
             Some(path) => Some(path.as_str()),
             None => None,
@@ -131,14 +131,19 @@ impl<'i, I: Read, F: Read + Drop> Source<'i, I, F> {
             || matches!(step.found, Ok(Found::Entry(Entry::Record(_))));
         self.place = moved(self.place, text, step.used);
         self.used = self.used.saturating_add(step.used as u64);
-        self.text.take(step.used);
+        self.text.window.take(step.used);
         next
     }
 
     /// Reads more of the file, in which an entry is not whole.
-    pub(crate) fn read_on<O: Sink>(&mut self, alloc: Global, out: &mut O) -> Result<(), Refusal> {
+    pub(crate) fn read_on<I: Read, O: Sink>(
+        &mut self,
+        alloc: Global,
+        input: &mut I,
+        out: &mut O,
+    ) -> Result<(), Refusal> {
         out.flush()?;
-        let len = self.text.left().len();
+        let len = self.text.window.left().len();
         if MAX_ENTRY < len {
             return Err(Refusal::TooLong(MAX_ENTRY));
         }
@@ -147,7 +152,7 @@ impl<'i, I: Read, F: Read + Drop> Source<'i, I, F> {
         } else {
             len.saturating_mul(2)
         };
-        match self.text.fill_to(wanted.saturating_add(1)) {
+        match self.text.fill_to(input, wanted.saturating_add(1)) {
             Ok(()) => Ok(()),
             Err(error) => Err(unread(alloc, self.name.as_str(), error)),
         }
