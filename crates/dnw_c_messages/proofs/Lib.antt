@@ -3,10 +3,6 @@ mod RecordEnds
 mod RecordReads
 pub mod TypeCodes
 mod Forms
-mod Items
-mod Comparing
-mod InTurn
-mod Runs
 mod Sheets
 mod Steps
 mod FieldSteps

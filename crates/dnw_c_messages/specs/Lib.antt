@@ -2,12 +2,9 @@ pub mod EdnsCalls
 pub mod OptionCalls
 pub mod OptionValues
 pub mod FieldCalls
-pub mod FillCalls
 pub mod ListCalls
-pub mod ListEnds
 pub mod MessageCalls
 pub mod PackCalls
-pub mod Packed
 pub mod RecordCalls
 pub mod BegunQueries
 pub mod BegunReplies

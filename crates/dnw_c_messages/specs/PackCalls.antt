@@ -8,15 +8,15 @@ use Rattle.dnw_message_read.specs.Headers.{header_size}
 use Rattle.dnw_message_read.specs.Messages.{FailsMessage, MessageAt, MessageValue}
 use Rattle.dnw_message_read.specs.declared.error.MessageError.{MessageError}
 use Rattle.dnw_message_writer.specs.Edns.{most_block}
+use Rattle.dnw_message_writer.specs.ListResults.{is_cut}
 use Rattle.dnw_message_writer.specs.Padded.{CopiesPadded, FailsToCopyPadded}
 use Rattle.dnw_message_writer.specs.declared.copying.CopyError.{CopyError}
+use Rattle.dnw_message_writer.specs.declared.list.Written.{Written}
 use Rattle.dnw_message_writer.specs.declared.copying.CopyError.TheVariants.{Data, Edns, Memory, TooManyPointers, Write}
 use Rattle.dnw_message_writer.specs.declared.state.WriterState.{WriterState}
 use Rattle.dnw_c_messages.specs.EdnsCalls.{of_edns}
 use Rattle.dnw_c_messages.specs.MessageCalls.{of_message}
-use Rattle.dnw_c_messages.specs.Packed.{is_cut}
 use Rattle.dnw_c_messages.specs.WriterCalls.{of_write}
-use Rattle.dnw_c_messages.specs.declared.packed.PackedMessage.{PackedMessage}
 
 -- the octets begin with this message
 abbrev pub IsReadMessage : List ℕ → MessageValue → Type 0
@@ -31,7 +31,7 @@ of_copy TooManyPointers = why.TooManyPointers
 of_copy Memory = why.NoMemory
 
 -- The octets begin with a message, and it is copied, in at most so many octets, padded to a multiple of a block.
-abbrev pub PutsCopy : List ℕ → ℕ → ℕ → List ℕ → List ℕ → PackedMessage → Type 0
+abbrev pub PutsCopy : List ℕ → ℕ → ℕ → List ℕ → List ℕ → Written → Type 0
 PutsCopy octets most block old new packed =
     (m : MessageValue) × (w : WriterState) × IsReadMessage octets m × CopiesPadded m most (min block most_block) old w new
     × (packed ≡ record { len = w.end; truncated = is_cut new })
@@ -45,5 +45,5 @@ FailsToPack octets most block old failure =
     × (failure ≡ of_copy error))
 
 -- The copy is put, and what C learns of it is the value.
-abbrev pub PacksMessage : List ℕ → ℕ → ℕ → List ℕ → List ℕ → Result PackedMessage Failure → Type 0
+abbrev pub PacksMessage : List ℕ → ℕ → ℕ → List ℕ → List ℕ → Result Written Failure → Type 0
 PacksMessage octets most block old new result = MatchResult result (PutsCopy octets most block old new) (FailsToPack octets most block old)

@@ -1,6 +1,6 @@
 -- How the functions for C write a message item by item, and why one adds nothing. What octets an item is written as, and when it has
 -- no room, is said by the definitions of `dnw_message_writer`.
-use Rattle.std.specs.Prelude.{◌≡◌, ◌<◌, ◌≤◌, ◌⊎◌, ℕ, suc, List, length, take, Result, MatchResult}
+use Rattle.std.specs.Prelude.{◌≡◌, ◌<◌, ◌≤◌, ◌⊎◌, ℕ, suc, List, length, Result, MatchResult}
 use Rattle.dnw_record.specs.DataPieces.{IsData}
 use Rattle.dnw_c_base.specs.WireForms.{IsFormOf, IsNoForm}
 use Rattle.dnw_c_base.specs.declared.failure.Failure.{Failure}
@@ -10,6 +10,7 @@ use Rattle.dnw_message_read.specs.Headers.{header_size}
 use Rattle.dnw_message_writer.specs.Data.{AreOfData}
 use Rattle.dnw_message_writer.specs.Hints.{slot_of}
 use Rattle.dnw_message_writer.specs.Items.{ItemPast, question_form, question_past, record_form, record_past}
+use Rattle.dnw_message_writer.specs.ListResults.{StaysAsItWas}
 use Rattle.dnw_message_writer.specs.Sections.{rank}
 use Rattle.dnw_message_writer.specs.States.{AddsItem, AddsLastItem, BeginsMessage, FailsToAdd, for_last}
 use Rattle.dnw_message_writer.specs.declared.pieces.Piece.{Piece}
@@ -28,10 +29,6 @@ of_write OutOfOrder = why.BadItem
 of_write NoRoom = why.MessageTooLong
 of_write SecondOpt = why.DuplicateEdns
 of_write CutOption = why.CutOption
-
--- The state and the octets of the message are unchanged.
-abbrev pub StaysAsItWas : WriterState → List ℕ → WriterState → List ℕ → Type 0
-StaysAsItWas before old after new = (after ≡ before) × (take before.end new ≡ take before.end old)
 
 -- Something is added, or it is not for such a reason, and the message is unchanged.
 abbrev pub AddsOr : (WriterState → List ℕ → WriterState → List ℕ → Type 0) → (WriterState → List ℕ → Failure → Type 0)

@@ -10,16 +10,8 @@
 #![tactic(auto)]
 /// What messages say by EDNS.
 pub mod edns;
-/// The records of a list that come last in its message.
-mod ends;
 /// The fields of the data of records.
 pub mod fields;
-/// Records of a list, as many as a message has room for.
-pub mod filling;
-/// Sets of records of a list, of which a part is left out.
-mod halved;
-/// Lists of the items of a message.
-mod listed;
 /// Whole messages.
 pub mod message;
 /// What EDNS options say.
@@ -28,8 +20,6 @@ pub mod option_parts;
 pub mod options;
 /// Names that are given by their wire forms.
 pub mod owners;
-/// Messages that are written whole, and if they are truncated.
-pub mod packed;
 /// Messages, written again.
 pub mod packing;
 /// Queries, as they begin.
@@ -52,5 +42,5 @@ pub mod sets;
 pub mod type_sets;
 /// Messages, written item by item.
 pub mod writer;
-/// Messages, written from lists of items.
+/// Messages, written from lists of items, and records of lists, as many as a message has room for.
 pub mod writing;

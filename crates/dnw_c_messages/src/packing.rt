@@ -5,12 +5,12 @@ ghost use Rattle.dnw_c_messages.specs.PackCalls.{PacksMessage, of_copy};
 
 use crate::edns::of_edns;
 use crate::message::of_message;
-use crate::packed::{PackedMessage, is_cut};
 use crate::writer::of_write;
 use dnw_c_base::failure::{Failure, of_decode};
 use dnw_c_base::results::report;
 use dnw_message_read::message::MessageRef;
 use dnw_message_writer::copying::CopyError;
+use dnw_message_writer::list::{Written, is_cut};
 use dnw_message_writer::standing::FIRST_ITEM;
 use dnw_message_writer::state::WriterState;
 use std::alloc::Global;
@@ -25,7 +25,7 @@ pub extern "C" fn dnw_message_pack(
     max_size: u16,
     block: u16,
     packed: &mut [u8],
-    found: &mut PackedMessage,
+    found: &mut Written,
 ) -> u32
     ensures { Returns (PacksMessage message.now max_size block packed.old packed.new) found.old found.new result }
 {
@@ -46,7 +46,7 @@ fn pack(
     max_size: usize,
     block: usize,
     packed: &mut [u8],
-) -> Result<PackedMessage, Failure>
+) -> Result<Written, Failure>
     ensures { PacksMessage octets.now max_size block packed.old packed.new result }
 {
     let message = match MessageRef::read(octets) {
@@ -60,7 +60,7 @@ fn pack(
     if let Err(error) = writer.copy_padded(alloc, packed, &message, max_size, block) {
         return Err(of_copy(&error));
     }
-    Ok(PackedMessage {
+    Ok(Written {
         len: writer.end,
         truncated: is_cut(packed),
     })

@@ -121,7 +121,7 @@ pub extern "C" fn dnw_writer_release(octets: usize, writer: &mut WriterState) ->
 }
 
 /// Begins a message.
-pub(crate) fn begin(
+fn begin(
     message: &mut [u8],
     max_size: usize,
     id: u16,
@@ -218,7 +218,7 @@ fn add_given(
 
 /// Adds a record with this owner and these data to a section. Mostly the data are one piece.
 #[inline(always)]
-pub(crate) fn add_owned(
+fn add_owned(
     message: &mut [u8],
     section: Section,
     owner: WireLabels<'_>,

@@ -11,7 +11,11 @@ pub mod GivenRecords
 pub mod Going
 pub mod LastRecords
 pub mod Laying
+pub mod ListFilling
+pub mod ListHalves
 pub mod Listing
+pub mod ListItems
+pub mod ListRuns
 pub mod Opening
 pub mod Opts
 pub mod Owners

@@ -8,6 +8,11 @@ pub mod Edns
 pub mod Hints
 pub mod Inside
 pub mod Items
+pub mod ListEnds
+pub mod ListFills
+pub mod ListItems
+pub mod ListResults
+pub mod Lists
 pub mod Listed
 pub mod NameLaws
 pub mod Needs

@@ -20,7 +20,7 @@ use dnw_name::name_ref::NameRef;
 use dnw_record::record_ref::RecordRef;
 
 /// How many pairs of records are compared at most.
-const MOST_PAIRS: u16 = 4096;
+pub(crate) const MOST_PAIRS: u16 = 4096;
 
 /// Returns `true` if half of a set of a section may be in a message that is written, and the other half be left out.
 pub(crate) fn lacks_half_of(section: Section, source: &MessageRef<'_>, message: &[u8]) -> bool

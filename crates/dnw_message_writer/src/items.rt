@@ -107,7 +107,7 @@ pub(crate) fn place_at(message: &[u8], at: usize) -> u16
 
 /// Returns the fields of a question after its name.
 #[inline(always)]
-fn question_fields(query_type: u16, class: u16) -> [u8; 4]
+pub(crate) fn question_fields(query_type: u16, class: u16) -> [u8; 4]
     ensures { result ≡ question_fields query_type class }
 {
     let query_type = query_type.to_be_bytes();

@@ -11,6 +11,7 @@ pub mod hints;
 mod items;
 mod last;
 pub mod laws;
+pub mod list;
 pub mod listed;
 mod missing;
 pub mod names;
