@@ -253,6 +253,14 @@ pub use Rattle.dnw_message_writer.specs.Edns.{AddsOpt, AddsOptItem, FailsToAddOp
 pub use Rattle.dnw_message_writer.specs.Hints.{slot_of}
 pub use Rattle.dnw_message_writer.specs.Items.{fields_of_record, IsNear, IsOwner, IsQuestion, IsRecord, ItemForm, ItemPast, QuestionGoesPast, RecordGoesPast}
 pub use Rattle.dnw_message_writer.specs.Items.{question_form, question_past, record_form, record_past}
+pub use Rattle.dnw_message_writer.specs.ListEnds.{AddsEnds, AddsListed, AddsOptAs, AddsOptEnd, AddsSignature, AddsWhole, FailsToAddEnds, FailsToAddListed, FailsToAddOptAs, FailsToAddOptEnd, FailsToAddSignature, FailsToAddWhole, SaysWithCode}
+pub use Rattle.dnw_message_writer.specs.ListEnds.{has_such, held_by, is_put_last, no_ends, of_second, says_edns, size_of_end, whole_item, with_end}
+pub use Rattle.dnw_message_writer.specs.ListFills.{AddsInTurn, AddsNext, FailsToAddNext, FailsToFill, FillsFrom, FillsOr}
+pub use Rattle.dnw_message_writer.specs.ListItems.{need_octet, question_item, head_of_record, record_item}
+pub use Rattle.dnw_message_writer.specs.ListResults.{FailsToAddForm, StaysAsItWas, error_of_data, error_of_write}
+pub use Rattle.dnw_message_writer.specs.Lists.{AddsRecords, AddsRun, BeginsWithOctet, FailsToAddRecords, FailsToBegin, FailsToWriteNext, FailsToScan, FailsToWriteList, WritesNext, WritesFrom, HasNoListed, IsBadList, IsHalfListed, IsHalved}
+pub use Rattle.dnw_message_writer.specs.Lists.{IsLeftOut, IsNoEnd, IsNoItem, IsNoOctet, IsNoneOfSet, IsOctetOf, IsOfRun, LacksListed, PassesEnd, Progress, ScansItem, ScansList, ScansRecord, ScansTo, Starts, TakesListed, TakesQuestion, WritesItems, WritesListOr}
+pub use Rattle.dnw_message_writer.specs.Lists.{has_to_be_there, is_bare, is_server_out, left_with, nothing_left_out, pairs_left, place_of, progress, progress_at, question_octet, what_is_there, with_code}
 pub use Rattle.dnw_message_writer.specs.Listed.{data_form, data_past, FailsListed, FailsToAddData, ListsData}
 pub use Rattle.dnw_message_writer.specs.NameLaws.{CompressedNamesTakeNoMore, KeepsSettled, WrittenNamesAreRead}
 pub use Rattle.dnw_message_writer.specs.Needs.{are_beside, are_the_same, has_data_below, has_half, has_half_in, has_required, halves, holding, holding_all, is_answered, is_half_after, is_half_there, is_of_address, last_data, most_pairs, set_type, signs_set, with_all_asked, with_asked, is_below, is_below_cut, is_glue, is_extra, is_of_query, is_request, is_required, is_required_in, is_server, is_transfer, is_uncut, purpose_by, purpose_of, signs_servers}

@@ -178,6 +178,16 @@ pub mod message {
     pub use dnw_message_read::response_code::ResponseCode;
 }
 
+/// Messages from lists of items: which sets of records are left out if they have no room, whether TC says so, and what comes last.
+pub mod message_list {
+    pub use dnw_message_writer::list::fill::fill_list;
+    pub use dnw_message_writer::list::push::{
+        Need, PushError, push_data, push_question, push_record,
+    };
+    pub use dnw_message_writer::list::writing::write_list;
+    pub use dnw_message_writer::list::{ListError, Written};
+}
+
 /// Whole messages as text: in the layout of `dig`, and as JSON (RFC 8427).
 pub mod message_text {
     pub use dnw_message_text::json::message_json;
