@@ -10,6 +10,8 @@ mod ample;
 #[cfg(test)]
 mod ample_growing;
 #[cfg(test)]
+mod ample_lists;
+#[cfg(test)]
 mod ample_messages;
 #[cfg(test)]
 mod ample_ordinary;
@@ -41,6 +43,8 @@ mod given_fields;
 mod guards;
 #[cfg(test)]
 mod items;
+#[cfg(test)]
+mod message_lists;
 #[cfg(test)]
 mod message_writer;
 mod messages;
