@@ -1,0 +1,4 @@
+pub mod Moves
+pub mod Zones
+pub mod Steps
+pub mod Doing
