@@ -1,0 +1,3 @@
+pub mod AlgorithmNames
+pub mod Padding
+pub mod Same

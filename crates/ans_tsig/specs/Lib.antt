@@ -1,0 +1,4 @@
+pub mod Inside
+pub mod Hmac
+pub mod Feeding
+pub mod Algorithms
