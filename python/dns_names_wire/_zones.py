@@ -25,8 +25,9 @@ _MOST = 1 << 24
 _ROWS = 256
 _ROWS_SIZE = dnw.ZONE_OCTETS_SIZE + (1 << 15)
 _ROW = struct.Struct("NNNNNIHH")
-# How deep files include others, and how many octets of a line are shown before and after what is wrong.
+# How deep files include others, how many are included in all, and how many octets of a line are shown before and after what is wrong.
 _DEPTH = 10
+_FILES = 1000
 _SHOWN = 500
 
 _next, _read = by_address("dnw_zone_next"), by_address("dnw_zone_read")
@@ -38,7 +39,8 @@ class ZoneError(DnsError):
     """An entry of a zone file is not valid. `str` shows where, and what is wrong, as compilers do.
 
     `file` is the name of the file, `line` and `column` are the place in it, from 1, and `offset` is the same in octets, from 0.
-    `text` is the line, in which octets that are not printable ASCII are shown as `\\DDD`.
+    `text` is the line, in which octets that are not printable ASCII are shown as `\\DDD`, as in the name that `str` shows. Of an
+    included file it is empty before the first record of that file, so that no line of a file is shown that is no zone file.
 
     >>> from dns_names_wire import read_zone
     >>> list(read_zone(b"a 60 A 192.0.2.256\\n", "example."))
@@ -53,7 +55,7 @@ class ZoneError(DnsError):
         self.file, self.line, self.column, self.text = file, line, column, text
 
     def __str__(self) -> str:
-        return f"{self.file}:{self.line}:{self.column}: {self.reason}"
+        return f"{_shown_name(self.file)}:{self.line}:{self.column}: {self.reason}"
 
 
 def _shown(octets: bytes) -> str:
@@ -61,11 +63,17 @@ def _shown(octets: bytes) -> str:
     return "".join(chr(octet) if 32 <= octet < 127 or octet == 9 else f"\\{octet:03}" for octet in octets)
 
 
+def _shown_name(name: str) -> str:
+    """Returns the name of a file, in which octets that are not printable ASCII are escaped."""
+    return _shown(os.fsencode(name)).replace("\t", "\\009")
+
+
 class _File:
-    """A file that is read, in parts that end where it is read up to: the next entry begins at `at`."""
+    """A file that is read, in parts that end where it is read up to: the next entry begins at `at`. Relative paths begin in `folder`."""
 
     def __init__(self, stream: BinaryIO, name: str, folder: Optional[str], zone: dnw.Zone, is_own: bool = True) -> None:
         self.stream, self.name, self.folder, self.zone, self.is_own = stream, name, folder, zone, is_own
+        self.shows_lines = True
         self.window = (c_char * _WINDOW)()
         self.at = self.there = 0
         self.more = True
@@ -97,7 +105,7 @@ class _File:
         before = octets[max(self.at, place - _SHOWN) : place].tobytes()
         after = octets[place : min(self.there, place + _SHOWN)].tobytes()
         text = before[before.rfind(b"\n") + 1 :] + after.partition(b"\n")[0].rstrip(b"\r")
-        return ZoneError(reason, entry.offset, self.name, entry.line, entry.column, _shown(text))
+        return ZoneError(reason, entry.offset, self.name, entry.line, entry.column, _shown(text) if self.shows_lines else "")
 
     def identity(self) -> Optional[Tuple[int, int]]:
         """Returns what identifies the file, if it is one of the system's."""
@@ -109,10 +117,11 @@ class _File:
 
 
 class _Reader:
-    """Reads the entries of a file and of those that it includes."""
+    """Reads the entries of a file and of those that it includes, which are below these folders after links are followed."""
 
-    def __init__(self, errors: Optional[Callable[[ZoneError], object]]) -> None:
-        self.errors = errors
+    def __init__(self, errors: Optional[Callable[[ZoneError], object]], folders: Iterable[str]) -> None:
+        self.errors, self.count = errors, 0
+        self.folders = tuple(os.path.join(os.path.realpath(folder), "") for folder in folders)
         self.files: List[_File] = []
         self.entry, self.octets = dnw.ZoneEntry(), (c_char * _ROWS_SIZE)()
         self.entry_at, self.octets_at = addressof(self.entry), addressof(self.octets)
@@ -141,7 +150,7 @@ class _Reader:
             check(_read(*part, self.rows_at, _ROWS, self.octets_at, _ROWS_SIZE, self.read_at))
             octets = taken(self.octets, read.octets_len)
             found = _ROW.iter_unpack(taken(self.rows, read.row_count * _ROW.size))
-            file.at, kind = file.at + read.used, read.next
+            file.at, kind, file.shows_lines = file.at + read.used, read.next, file.shows_lines or read.row_count > 0
             for _, at, size, name_size, data_size, ttl, record_type, record_class in found:
                 yield self.made(octets[at : at + size], name_size, data_size, ttl, record_type, record_class)
 
@@ -156,6 +165,7 @@ class _Reader:
                 continue
             used = entry.used
             if kind == dnw.ZONE_RECORD:
+                file.shows_lines = True
                 wire = taken(self.octets, entry.len)
                 yield self.made(wire, entry.name_len, entry.data_len, entry.ttl, entry.record_type, entry.record_class)
             elif kind == dnw.ZONE_ERROR:
@@ -181,29 +191,36 @@ class _Reader:
         """Opens the file of the `$INCLUDE` that was taken, whose entries come next."""
         entry, octets = self.entry, taken(self.octets, self.entry.len)
         wire, name = octets[: entry.name_len], os.fsdecode(octets[entry.name_len :])
-        fault = file.error("", entry, 0)
+        fault, shown = file.error("", entry, 0), f"'{_shown_name(name)}'"
         try:
-            included = self.opened(file, name)
+            included = self.opened(file, name, shown)
         except (OSError, ValueError) as error:
-            fault.reason = str(error) if isinstance(error, ValueError) else f"{name!r} cannot be read: {error.strerror or error}"
+            fault.reason = str(error) if isinstance(error, ValueError) else f"{shown} cannot be read: {error.strerror or error}"
             self.report(fault)
         else:
             check(library.dnw_zone_include(wire, len(wire), byref(included.zone)))
             self.files.append(included)
 
-    def opened(self, file: _File, name: str) -> _File:
+    def opened(self, file: _File, name: str, shown: str) -> _File:
         """Opens a file that another one includes. It has a copy of its state."""
         if file.folder is None:
             raise ValueError("$INCLUDE is not followed here: no folder is given")
         if len(self.files) >= _DEPTH:
-            raise ValueError(f"files include one another more than {_DEPTH} deep")
+            raise ValueError(f"{_DEPTH} files include one another already")
+        if self.count >= _FILES:
+            raise ValueError(f"{_FILES} files are included already")
         path = os.path.join(file.folder, name)
-        if not stat.S_ISREG(os.stat(path).st_mode):
-            raise ValueError(f"{name!r} is not a file")
-        included = _File(open(path, "rb", buffering=0), path, os.path.dirname(path), dnw.Zone.from_buffer_copy(file.zone))
+        place = os.path.realpath(path) if os.path.isdir(os.path.dirname(path) or ".") else ""
+        # The same error, whether it is there or not
+        if not (place + os.sep).startswith(self.folders):
+            raise ValueError(f"{shown} is outside the folders to include from")
+        if not stat.S_ISREG(os.stat(place).st_mode):
+            raise ValueError(f"{shown} is not a file")
+        included = _File(open(place, "rb", buffering=0), path, os.path.dirname(path), dnw.Zone.from_buffer_copy(file.zone))
         if included.identity() in [it.identity() for it in self.files]:
             included.close()
-            raise ValueError(f"{name!r} includes itself")
+            raise ValueError(f"{shown} includes itself")
+        self.count, included.shows_lines = self.count + 1, False
         return included
 
 
@@ -224,8 +241,10 @@ def read_zone(
     record has `default_ttl`, or is not valid. A file is read in parts, so that its size makes no difference to the memory. One that
     was open is not closed.
 
-    `$INCLUDE` is followed, up to ten files deep, and never into a file that is open already. Its file is looked for in the folder
-    of the file that includes it. Of octets and of an open file, `folder` is that folder; without it, they include no file.
+    `$INCLUDE` is followed, up to ten files deep, to 1000 files in all, and never into a file that is open already. A relative path
+    begins in the folder of the file that has it. The file has to be a plain one in the folder of the zone file or below it, or
+    below `folder`, after links are followed. Octets and an open file have no folder of their own: their relative paths begin in
+    `folder`, and without it they include no file.
 
     `$GENERATE`, an entry of BIND's that is in no RFC, is not valid, unless `generate_limit` is how many records it may stand for.
 
@@ -244,15 +263,17 @@ def read_zone(
         zone.fallback_ttl, zone.has_fallback_ttl = _checks.number("default_ttl", default_ttl, MOST_TTL), 1
     zone.generate_limit = _checks.number("generate_limit", generate_limit, 2**32 - 1)
     stream: BinaryIO
-    within, is_own = folder, True
+    folders, is_own = [] if folder is None else [os.fspath(folder)], True
     if isinstance(source, (str, os.PathLike)):
-        path = os.fspath(source)
-        name, stream, within = path, open(path, "rb", buffering=0), os.path.dirname(path) if folder is None else folder
+        name = os.fspath(source)
+        stream = open(name, "rb", buffering=0)
+        if stat.S_ISREG(os.fstat(stream.fileno()).st_mode):
+            folders.insert(0, os.path.dirname(name))
     elif hasattr(source, "readinto"):
         name, stream, is_own = str(getattr(source, "name", "<stream>")), source, False  # type: ignore[assignment]
     else:
         name, stream = "<bytes>", io.BytesIO(_checks.octets("source", source))
-    return _records(_File(stream, name, None if within is None else os.fspath(within), zone, is_own), _Reader(errors))
+    return _records(_File(stream, name, folders[0] if folders else None, zone, is_own), _Reader(errors, folders))
 
 
 def _begun(origin: NameLike) -> dnw.Zone:

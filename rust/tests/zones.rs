@@ -284,26 +284,96 @@ mod files {
         assert_eq!(ZoneFile::open("none", &name("o.")).unwrap_err().kind(), io::ErrorKind::NotFound);
     }
 
+    /// The records of a zone in the folder `sub` that includes a file, with these folders given, and what its errors say.
+    fn including(folder: &Folder, file: &str, given: &[&str]) -> Vec<String> {
+        let zone = folder.write("sub/zone", &format!("$TTL 7\n$INCLUDE \"{file}\"\n"));
+        let zone = ZoneFile::open(zone, &name("o.")).unwrap();
+        let zone = given.iter().fold(zone, |zone, given| zone.include_from(folder.0.join(given)));
+        zone.map(|record| record.map_or_else(|error| error.sentence().into(), |record| record.to_string())).collect()
+    }
+
     #[test]
-    fn files_are_looked_for_in_the_folder_of_the_file_or_another() {
-        let folder = Folder::new("folder");
-        let zone = folder.write("zone", "$TTL 7\n$INCLUDE sub/f\n");
-        folder.write("sub/f", "$INCLUDE g\n");
-        folder.write("sub/g", "sub TXT x");
-        folder.write("g", "top TXT x");
-        assert_eq!(records_of(&zone), ["sub.o. 7 IN TXT \"x\""]);
-        let from = |folder: &Path| ZoneFile::open(&zone, &name("o.")).unwrap().include_from(folder);
-        assert_eq!(from(&folder.0).map(line).collect::<Vec<_>>(), ["top.o. 7 IN TXT \"x\""]);
-        assert_eq!(from(&folder.0.join("sub")).filter_map(Result::err).count(), 1);
-        let zone = folder.write("absolute", &format!("$TTL 7\n$INCLUDE \"{}\"", folder.0.join("g").display()));
-        assert_eq!(records_of(&zone), ["top.o. 7 IN TXT \"x\""]);
+    fn files_are_below_the_folder_of_the_zone_or_one_that_is_given() {
+        let folder = Folder::new("below");
+        fs::create_dir(folder.0.join("sub/deep")).unwrap();
+        folder.write("sub/deep/f", "$INCLUDE g\n");
+        for (file, owner) in [("g", "out"), ("sub/g", "near"), ("sub/deep/g", "deep")] {
+            folder.write(file, &format!("{owner} TXT x"));
+        }
+        for (link, target) in [("sub/out", "../g"), ("sub/lost", "../none"), ("in", "sub/g"), ("sub/up", "..")] {
+            std::os::unix::fs::symlink(target, folder.0.join(link)).unwrap();
+        }
+        let whole = |file: &str| folder.0.join(file).display().to_string();
+        let record = |owner: &str| [format!("{owner}.o. 7 IN TXT \"x\"")];
+        assert_eq!(including(&folder, "deep/f", &[]), record("deep"));
+        for file in ["g", "./g", "../sub/g", "deep/../g", "../in", "up/sub/g", &whole("sub/g"), &whole("in")] {
+            assert_eq!(including(&folder, file, &[]), record("near"), "{file}");
+        }
+        // The same error, whether the file is there or not
+        let outside =
+            ["../g", "../none", "../none/g", "out", "lost", "up/g", "up/none", "/etc/passwd", "/etc/none", "/", ".."];
+        for file in outside.into_iter().chain([&*whole("g"), &*whole("none")]) {
+            let wanted = [format!("\"{file}\" is outside the folders to include from")];
+            assert_eq!(including(&folder, file, &["sub", "sub/deep", "lost", "s"]), wanted, "{file}");
+        }
+        for file in ["../g", "out", "up/g", &whole("g")] {
+            assert_eq!(including(&folder, file, &["sub/deep", "."]), record("out"), "{file}");
+        }
+        // A folder that is given is not where relative paths begin.
+        assert_eq!(including(&folder, "g", &["."]), record("near"));
+    }
+
+    #[test]
+    fn pipes_include_files_of_a_folder_that_is_given() {
+        let folder = Folder::new("pipe");
+        folder.write("f", "a 1 A 192.0.2.1\n");
+        let pipe = folder.0.join("pipe");
+        assert!(std::process::Command::new("mkfifo").arg(&pipe).status().unwrap().success());
+        let zone = || {
+            let to = pipe.clone();
+            let writer = std::thread::spawn(move || fs::write(to, "$INCLUDE f\n").unwrap());
+            let zone = ZoneFile::open(&pipe, &name("o.")).unwrap();
+            writer.join().unwrap();
+            zone
+        };
+        let wanted = format!("{}:1:1: $INCLUDE is not followed here: no folder is given", pipe.display());
+        assert_eq!(zone().map(line).collect::<Vec<_>>(), [wanted]);
+        assert_eq!(zone().include_from(&folder.0).map(line).collect::<Vec<_>>(), ["a.o. 1 IN A 192.0.2.1"]);
+        assert_eq!(including(&folder, "../pipe", &["."]), ["\"../pipe\" is not a file"]);
+    }
+
+    #[test]
+    fn lines_of_files_without_a_record_are_not_shown() {
+        let folder = Folder::new("lines");
+        let secret = "root:x:0\n$INCLUDE none\n\"\na 1 A 192.0.2.1\nroot:x:0\n$INCLUDE none\n";
+        folder.write("secret", secret);
+        let zone = folder.write("zone", "$INCLUDE secret\nx:\n");
+        let texts =
+            |zone| ZoneFile::open(zone, &name("o.")).unwrap().map(|it| it.map_or_else(|it| it.text().into(), line_of));
+        fn line_of(record: RecordBuf) -> String {
+            record.to_string()
+        }
+        let wanted = ["", "", "", "a.o. 1 IN A 192.0.2.1", "root:x:0", "$INCLUDE none", "x:"];
+        assert_eq!(texts(zone).collect::<Vec<_>>(), wanted);
+    }
+
+    #[test]
+    fn names_of_files_are_escaped() {
+        let folder = Folder::new("escaped");
+        let escaped = r"x\027[31m\010\009\195\169";
+        let cause = "No such file or directory (os error 2)";
+        assert_eq!(including(&folder, escaped, &[]), [format!("\"{escaped}\" cannot be read: {cause}")]);
+        folder.write("sub/x\x1b[31m\n\té", "x");
+        let zone = folder.write("sub/zone", &format!("$INCLUDE \"{escaped}\""));
+        let shown = records_of(&zone);
+        assert!(shown[0].starts_with(&format!("{}/{escaped}:1:2: ", folder.0.join("sub").display())), "{shown:?}");
     }
 
     #[test]
     fn errors_of_files_have_their_path() {
         let folder = Folder::new("errors");
         let zone = folder.write("zone", "$TTL 1\n\n  $INCLUDE x\n$INCLUDE sub/f\nb A 192.0.2.1\n");
-        let inner = folder.write("sub/f", "; c\na A 192.0.2\n");
+        let inner = folder.write("sub/f", "a A 192.0.2.1\na A 192.0.2\n");
         let errors: Vec<_> = ZoneFile::open(&zone, &name("o.")).unwrap().filter_map(Result::err).collect();
         assert_eq!((errors[0].path(), errors[0].line()), (Some(&*zone), 3));
         let at = (errors[1].path().unwrap(), errors[1].line(), errors[1].column(), errors[1].text());
@@ -316,7 +386,8 @@ mod files {
     #[test]
     fn files_that_cannot_be_included() {
         let folder = Folder::new("refuse");
-        let text = "$INCLUDE none\n$INCLUDE sub\n$INCLUDE /dev/zero\n ; c\n$INCLUDE ./zone\n$TTL 1\na A 192.0.2.1\n";
+        std::os::unix::fs::symlink("zone", folder.0.join("link")).unwrap();
+        let text = "$INCLUDE none\n$INCLUDE sub\n$INCLUDE /dev/zero\n ; c\n$INCLUDE ./zone\n$INCLUDE link\n$TTL 1\na A 192.0.2.1\n";
         let zone = folder.write("zone", text);
         let path = zone.display();
         let wanted = [
@@ -324,9 +395,11 @@ mod files {
             format!("{path}:2:1: \"sub\" is not a file"),
             format!("{path}:3:1: \"/dev/zero\" is not a file"),
             format!("{path}:5:1: \"./zone\" includes itself"),
+            format!("{path}:6:1: \"link\" includes itself"),
             "a.o. 1 IN A 192.0.2.1".to_string(),
         ];
-        assert_eq!(records_of(&zone), wanted);
+        let items = ZoneFile::open(&zone, &name("o.")).unwrap().include_from("/dev");
+        assert_eq!(items.map(line).collect::<Vec<_>>(), wanted);
         let error = ZoneFile::open(&zone, &name("o.")).unwrap().next().unwrap().unwrap_err();
         assert_eq!(error.text(), "$INCLUDE none");
         let source = error.source().unwrap().downcast_ref::<io::Error>().unwrap();
@@ -343,10 +416,7 @@ mod files {
         let (first, deepest) = (folder.0.join("f0"), folder.0.join(format!("f{}", last - 1)));
         let records = records_of(&first);
         assert_eq!(records[..last], (0..last).map(|n| format!("f{n}.o. 1 IN A 192.0.2.1")).collect::<Vec<_>>());
-        assert_eq!(
-            records[last..],
-            [format!("{}:2:1: files include one another more than {last} deep", deepest.display())]
-        );
+        assert_eq!(records[last..], [format!("{}:2:1: {last} files include one another already", deepest.display())]);
         // A file that includes one that includes it
         folder.write("f1", "$INCLUDE f0\n");
         assert_eq!(records_of(&first)[1], format!("{}:1:1: \"f0\" includes itself", folder.0.join("f1").display()));
@@ -354,6 +424,13 @@ mod files {
         folder.write("f1", "x 1 A 192.0.2.1\n");
         let twice = folder.write("twice", "$INCLUDE f1\n$INCLUDE f1\n");
         assert_eq!(records_of(&twice), ["x.o. 1 IN A 192.0.2.1"; 2]);
+        let most = ZoneFile::MAX_FILES;
+        let many = records_of(&folder.write("many", &"$INCLUDE f1\n".repeat(most + 1)));
+        assert!(many[..most].iter().all(|it| it == "x.o. 1 IN A 192.0.2.1"));
+        assert_eq!(
+            many[most..],
+            [format!("{}:1001:1: 1000 files are included already", folder.0.join("many").display())]
+        );
     }
 }
 

@@ -15,7 +15,8 @@ use std::path::{Path, PathBuf};
 const SHOWN: usize = 500;
 
 /// Why an entry of a zone file is not valid or cannot be read, and where. It is printed as compilers do, as
-/// `FILE:LINE:COLUMN: SENTENCE`, without `FILE:` if the file has no path.
+/// `FILE:LINE:COLUMN: SENTENCE`, without `FILE:` if the file has no path. Octets of a path that are not printable ASCII are printed
+/// as `\DDD`.
 ///
 /// ```
 /// use dns_names_wire::ZoneReader;
@@ -55,10 +56,13 @@ impl ZoneError {
         self
     }
 
-    /// Returns the same error in a file.
+    /// Returns the same error in a file, without its line if that may not be shown.
     #[cfg(feature = "std")]
-    pub(super) fn in_file(mut self, path: &Path) -> Self {
+    pub(super) fn in_file(mut self, path: &Path, shows_line: bool) -> Self {
         self.0.path = Some(path.into());
+        if !shows_line {
+            self.0.text.clear();
+        }
         self
     }
 
@@ -88,7 +92,8 @@ impl ZoneError {
         &self.0.sentence
     }
 
-    /// Returns the line that is wrong. Octets that are not printable ASCII are shown as `\DDD`, and a long line is cut.
+    /// Returns the line that is wrong. Octets that are not printable ASCII are shown as `\DDD`, and a long line is cut. Of a file
+    /// that a `ZoneFile` includes it is empty before the first record of that file.
     pub fn text(&self) -> &str {
         &self.0.text
     }
@@ -98,7 +103,7 @@ impl fmt::Display for ZoneError {
     fn fmt(&self, f: &mut fmt::Formatter<'_>) -> fmt::Result {
         #[cfg(feature = "std")]
         if let Some(path) = &self.0.path {
-            write!(f, "{}:", path.display())?;
+            write!(f, "{}:", shown_path(path))?;
         }
         write!(f, "{}:{}: {}", self.0.line, self.0.column, self.0.sentence)
     }
@@ -161,4 +166,10 @@ pub(super) fn shown(octets: &[u8]) -> String {
         }
         text
     })
+}
+
+/// Returns a path as text, in which octets that are not printable ASCII are escaped.
+#[cfg(feature = "std")]
+pub(super) fn shown_path(path: &Path) -> String {
+    shown(std::os::unix::ffi::OsStrExt::as_bytes(path.as_os_str())).replace('\t', "\\009")
 }

@@ -1,23 +1,28 @@
 //! Zone files with the files that they include.
-use super::{ZoneError, ZoneInclude, ZoneItem, ZoneStream};
+use super::{error::shown_path, ZoneError, ZoneInclude, ZoneItem, ZoneStream};
 use crate::{Name, RecordBuf};
-use std::fs::{File, Metadata};
+use std::fs::File;
 use std::io;
 use std::iter::FusedIterator;
-use std::os::unix::fs::MetadataExt;
 use std::path::{Path, PathBuf};
 
 /// The records of a zone file and of the files that it includes: an iterator that goes on at the next entry after one that is
 /// not valid.
 ///
-/// The file of an `$INCLUDE` is looked for in the folder of the file that includes it, as Knot DNS does. BIND, NSD and
-/// dnspython look for it in their working directory; [`include_from`](ZoneFile::include_from) does that.
+/// A relative path of an `$INCLUDE` begins in the folder of the file that has it, as in Knot DNS. (In BIND, NSD and dnspython it
+/// begins in their working directory.) A zone file from strangers can name any file, so these alone are included: plain files in
+/// the folder of the zone file or below it, or below one that [`include_from`](ZoneFile::include_from) gives. Links are followed
+/// first. An absolute path, and one with `..`, has to lead to such a file too.
 ///
 /// What an included file says of owners, TTLs and the origin ends with it. (In BIND and NSD, its last `$TTL` goes on.) Its first
 /// entry may leave out what an entry may leave out at the `$INCLUDE`.
 ///
-/// A file that cannot be read is an error at the `$INCLUDE`, after which the iterator goes on. So is one that includes itself,
-/// directly or through others, and one with which more than [`MAX_DEPTH`](ZoneFile::MAX_DEPTH) files would be open.
+/// A file that may not be included is an error at the `$INCLUDE`, after which the iterator goes on: the same error whether it is
+/// there or not. So is one that cannot be read, one that includes itself, directly or through others, and one with which more than
+/// [`MAX_DEPTH`](ZoneFile::MAX_DEPTH) files would be open or more than [`MAX_FILES`](ZoneFile::MAX_FILES) be included.
+///
+/// An error in an included file has an empty [`text`](ZoneError::text) before the first record of that file, so that no line of a
+/// file is shown that is no zone file.
 ///
 /// The files are read in parts, as [`ZoneStream`] does.
 ///
@@ -37,29 +42,28 @@ use std::path::{Path, PathBuf};
 pub struct ZoneFile {
     /// The files that are open, each included by the one before it.
     files: Vec<OpenFile>,
-    folder: Option<PathBuf>,
+    /// The folders below which files may be included, after links are followed.
+    folders: Vec<PathBuf>,
+    /// How many files were included.
+    count: usize,
 }
 
 #[derive(Debug)]
 struct OpenFile {
     path: PathBuf,
+    /// Where the file is after links are followed. It is empty if this is no plain file.
+    place: PathBuf,
     entries: ZoneStream<File>,
-    id: FileId,
-}
-
-/// What no two files have in common: the device, and the number on it.
-#[derive(Debug, PartialEq, Eq)]
-struct FileId(u64, u64);
-
-impl From<Metadata> for FileId {
-    fn from(data: Metadata) -> Self {
-        FileId(data.dev(), data.ino())
-    }
+    /// Whether errors have their line: in an included file only after a record of it.
+    shows_lines: bool,
 }
 
 impl ZoneFile {
     /// The most files that are open at once: the first one, one that it includes, one that this includes, and so on.
     pub const MAX_DEPTH: usize = 10;
+
+    /// The most files that are included in all.
+    pub const MAX_FILES: usize = 1000;
 
     /// Opens a zone file. The origin is the name of the zone: it is appended to names without a last dot, until an `$ORIGIN`
     /// changes it.
@@ -79,9 +83,11 @@ impl ZoneFile {
         let path = path.as_ref().to_path_buf();
         origin.whole_wire()?;
         let file = File::open(&path)?;
-        let id = file.metadata()?.into();
-        let first = OpenFile { path, id, entries: ZoneStream::new(file, origin) };
-        Ok(ZoneFile { files: vec![first], folder: None })
+        let is_plain = file.metadata()?.is_file();
+        let place = if is_plain { path.canonicalize()? } else { PathBuf::new() };
+        let folders = path.parent().filter(|_| is_plain).map(canonical).into_iter().collect::<io::Result<_>>()?;
+        let first = OpenFile { path, place, entries: ZoneStream::new(file, origin), shows_lines: true };
+        Ok(ZoneFile { files: vec![first], folders, count: 0 })
     }
 
     /// Sets the TTL of records for which the files state none, as
@@ -105,8 +111,9 @@ impl ZoneFile {
         ZoneFile { files: self.files.into_iter().map(first).collect(), ..self }
     }
 
-    /// Looks for all files of `$INCLUDE` in this folder, and not in that of the file that includes them. An empty path is the
-    /// working directory.
+    /// Lets files of `$INCLUDE` be below this folder too. An empty path is the working directory; below a folder that is not there
+    /// no file is found. If the zone file is no plain file but a pipe, as `/dev/stdin` may be, it includes no file without a call,
+    /// and its relative paths begin in the folder of the first one.
     ///
     /// ```no_run
     /// use dns_names_wire::ZoneFile;
@@ -114,31 +121,42 @@ impl ZoneFile {
     /// let zone = ZoneFile::open("/etc/bind/example.zone", &"example.".parse()?)?.include_from("/var/cache/bind");
     /// # Ok::<(), Box<dyn std::error::Error>>(())
     /// ```
-    pub fn include_from(self, folder: impl Into<PathBuf>) -> Self {
-        ZoneFile { folder: Some(folder.into()), ..self }
+    pub fn include_from(mut self, folder: impl Into<PathBuf>) -> Self {
+        self.folders.extend(canonical(&folder.into()));
+        self
     }
 
     /// Opens the file of the `$INCLUDE` that the last file has.
-    fn open_included(&self, include: &ZoneInclude) -> Result<OpenFile, ZoneError> {
+    fn open_included(&mut self, include: &ZoneInclude) -> Result<(), ZoneError> {
         let outer = &self.files[self.files.len() - 1];
-        let refuse = |why: String| outer.entries.error(why).in_file(&outer.path);
-        let fail = |cause: io::Error| refuse(format!("{:?} cannot be read: {cause}", include.path())).caused_by(cause);
-        if self.files.len() >= Self::MAX_DEPTH {
-            return Err(refuse(format!("files include one another more than {} deep", Self::MAX_DEPTH)));
-        }
-        let folder = self.folder.as_deref().or_else(|| outer.path.parent());
-        let path = folder.map_or_else(|| include.path().to_path_buf(), |folder| folder.join(include.path()));
-        let data = path.metadata().map_err(fail)?;
-        if !data.is_file() {
-            return Err(refuse(format!("{:?} is not a file", include.path())));
-        }
-        let id = data.into();
-        if self.files.iter().any(|open| open.id == id) {
-            return Err(refuse(format!("{:?} includes itself", include.path())));
-        }
-        let entries = outer.entries.include(File::open(&path).map_err(fail)?, include.origin());
-        Ok(OpenFile { path, entries, id })
+        let error = |why: String| outer.entries.error(why).in_file(&outer.path, outer.shows_lines);
+        let named = |why: &str| format!("\"{}\" {why}", shown_path(include.path()));
+        let unread = |cause: io::Error| error(named(&format!("cannot be read: {cause}"))).caused_by(cause);
+        let ensure = |is_right: bool, why: String| if is_right { Ok(()) } else { Err(error(why)) };
+        ensure(!self.folders.is_empty(), "$INCLUDE is not followed here: no folder is given".into())?;
+        ensure(self.files.len() < Self::MAX_DEPTH, format!("{} files include one another already", Self::MAX_DEPTH))?;
+        ensure(self.count < Self::MAX_FILES, format!("{} files are included already", Self::MAX_FILES))?;
+        let path = outer.place.parent().and(outer.path.parent()).unwrap_or(&self.folders[0]).join(include.path());
+        let place = self.place_of(&path).ok_or_else(|| error(named("is outside the folders to include from")))?;
+        ensure(self.files.iter().all(|open| open.place != place), named("includes itself"))?;
+        ensure(place.metadata().map_err(unread)?.is_file(), named("is not a file"))?;
+        let entries = outer.entries.include(File::open(&place).map_err(unread)?, include.origin());
+        self.files.push(OpenFile { path, place, entries, shows_lines: false });
+        self.count += 1;
+        Ok(())
     }
+
+    /// Returns where a file is after links are followed, if it may be included, whether it is there or not.
+    fn place_of(&self, path: &Path) -> Option<PathBuf> {
+        let place = canonical(path.parent()?).ok()?.join(path.file_name()?);
+        let place = if place.is_symlink() { place.canonicalize().ok()? } else { place };
+        self.folders.iter().any(|folder| place.starts_with(folder)).then(|| place)
+    }
+}
+
+/// Returns where a folder is after links are followed.
+fn canonical(folder: &Path) -> io::Result<PathBuf> {
+    Path::new(".").join(folder).canonicalize()
 }
 
 impl Iterator for ZoneFile {
@@ -147,12 +165,15 @@ impl Iterator for ZoneFile {
     fn next(&mut self) -> Option<Self::Item> {
         while let Some(file) = self.files.last_mut() {
             match file.entries.next() {
-                Some(Ok(ZoneItem::Record(record))) => return Some(Ok(record)),
+                Some(Ok(ZoneItem::Record(record))) => {
+                    file.shows_lines = true;
+                    return Some(Ok(record));
+                }
                 Some(Ok(ZoneItem::Include(include))) => match self.open_included(&include) {
-                    Ok(included) => self.files.push(included),
+                    Ok(()) => {}
                     Err(error) => return Some(Err(error)),
                 },
-                Some(Err(error)) => return Some(Err(error.in_file(&file.path))),
+                Some(Err(error)) => return Some(Err(error.in_file(&file.path, file.shows_lines))),
                 None => {
                     self.files.pop();
                 }
