@@ -115,7 +115,7 @@ class Zones(unittest.TestCase):
         self.assertRaises(dnw.ZoneError, lines, zone, "o.", generate_limit=2)
         found = []
         lines(zone + b"$GENERATE 1-300 c$ A 192.0.2.$", "o.", generate_limit=300, errors=found.append)
-        self.assertEqual([str(error) for error in found], ["<bytes>:5:20: wanted an IPv4 address (field 0)"])
+        self.assertEqual([str(error) for error in found], ["<bytes>:5:22: wanted an IPv4 address (field 0)"])
         reverse = lines(b"$GENERATE 16-17 ${0,4,n}0 7 PTR h$.", "ip6.arpa.", generate_limit=9)
         self.assertEqual(reverse, ["0.1.0.ip6.arpa. 7 IN PTR h16.", "1.1.0.ip6.arpa. 7 IN PTR h17."])
         self.assertRaises(ValueError, read_zone, b"", ".", generate_limit=-1)
