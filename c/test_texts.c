@@ -299,14 +299,14 @@ static void prints_faults(void)
     EXPECT(says((struct dnw_text_fault){0, 5, 3, DNW_REASON_NO_OWNER}, "at offset 0: wanted an owner"));
     EXPECT(says((struct dnw_text_fault){9, 0, 0, DNW_REASON_WORDS_LEFT}, "at offset 9: more words are there"));
     EXPECT(says((struct dnw_text_fault){1, 1, 1, DNW_REASON_NONE}, ""));
-    EXPECT(says((struct dnw_text_fault){1, 1, 1, DNW_REASON_TIME_TOO_LARGE + 1}, ""));
+    EXPECT(says((struct dnw_text_fault){1, 1, 1, DNW_REASON_BAD_TEMPLATE + 1}, ""));
     EXPECT(says((struct dnw_text_fault){1, 1, 1, DNW_REASON_NAME - 1}, ""));
     EXPECT(says((struct dnw_text_fault){1, 1, 1, DNW_REASON_MANDATORY + 1}, ""));
     for (uint32_t reason = 0; reason <= DNW_REASON_MANDATORY; reason++) {
         size_t len = 0;
         struct dnw_text_fault fault = {SIZE_MAX, 0, SIZE_MAX, reason};
         EXPECT(dnw_text_fault_print(&fault, text, DNW_SENTENCE_SIZE, &len) == DNW_DONE && len <= DNW_SENTENCE_SIZE);
-        bool is_none = reason == 0 || (reason > DNW_REASON_TIME_TOO_LARGE && reason < DNW_REASON_NAME);
+        bool is_none = reason == 0 || (reason > DNW_REASON_BAD_TEMPLATE && reason < DNW_REASON_NAME);
         EXPECT((len == 0) == is_none);
     }
 }

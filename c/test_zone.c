@@ -431,7 +431,7 @@ static void rows_stop(void)
 static void generates(void)
 {
     generate_limit = 3;
-    GIVES(ISI, "$TTL 60\n$GENERATE 1-6/2 a$ A 1.2.3.$ ; c\nb A 1.2.3.4\n$generate 2147483647-2147483647 ( @ IN 7\n TXT ) \\$$$b\n",
+    GIVES(ISI, "$TTL 60\n$GENERATE 1-6/2 a$ A 1.2.3.$ ; c\nb A 1.2.3.4\n$generate 2147483647-2147483647 ( @ IN 7\n TXT ) \\$$b\n",
           "2:1 a1.ISI.EDU. 60 IN A 1.2.3.1\n2:1 a3.ISI.EDU. 60 IN A 1.2.3.3\n2:1 a5.ISI.EDU. 60 IN A 1.2.3.5\n"
           "3:1 b.ISI.EDU. 60 IN A 1.2.3.4\n4:1 ISI.EDU. 7 IN TXT \"$2147483647b\"\n");
     GIVES(ROOT, "$GENERATE 1-2 $$a$ 7 MX \"10 m${10}\"\n$GENERATE 1-1 a TXT \"\\\"foo \\\\ \\$\\\" ${0}\"\n",
