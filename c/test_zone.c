@@ -445,9 +445,9 @@ static void generates(void)
     GIVES(ROOT, "$TTL 1\n$GENERATE 254-256 a$ A 1.2.3.$\n A 1.2.3.4\n$GENERATE 1-4 a$ A 1.2.3.4\n$GENERATE 2-1 a$ A 1.2.3.4\n"
                 "$GENERATE 1-2/0 a$ A 1.2.3.4\n$GENERATE\n$GENERATE 1-1 a\n$GENERATE 1-1 a BOGUS b\n$GENERATE 1-1 a A 1.2.3.4 x\n"
                 "$GENERATE 1-1 a..$ A 1.2.3.4\n$GENERATE 1-1 a TXT ${0,5,b}\n$GENERATE 1-1 a${ A 1.2.3.4\n$GENERATE 1-1 a TXT ${2147483647}\n",
-          "2:1 a254. 1 IN A 1.2.3.254\n2:1 a255. 1 IN A 1.2.3.255\n2:22 error: wanted an IPv4 address (field 0) `1.2.3.$`\n"
+          "2:1 a254. 1 IN A 1.2.3.254\n2:1 a255. 1 IN A 1.2.3.255\n2:24 error: wanted an IPv4 address (field 0) `1.2.3.$`\n"
           "3:1 a255. 1 IN A 1.2.3.4\n4:11 error: more records than the limit `1-4`\n5:11 error: no range is there `2-1`\n"
-          "6:11 error: no range is there `1-2/0`\n7:10 error: no range is there ``\n8:16 error: no type is there ``\n"
+          "6:11 error: no range is there `1-2/0`\n7:10 error: no range is there ``\n8:16 error: wanted a record type ``\n"
           "9:17 error: the type is unknown `BOGUS`\n10:27 error: more words are there `x`\n11:15 error: the owner is no name `a..$`\n"
           "12:21 error: wanted $ or ${offset,width,base} `${0,5,b}`\n13:15 error: wanted $ or ${offset,width,base} `a${`\n"
           "14:21 error: wanted $ or ${offset,width,base} `${2147483647}`\n");
