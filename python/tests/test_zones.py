@@ -5,7 +5,9 @@ import io
 import os
 import pathlib
 import random
+import re
 import tempfile
+import threading
 import tracemalloc
 import unittest
 
@@ -174,15 +176,74 @@ class Files(unittest.TestCase):
             octets = file.read()
         self.assertEqual(lines(octets, "o.", folder=self.folder), wanted)
         self.assertEqual(str(error_of(octets)), "<bytes>:3:1: $INCLUDE is not followed here: no folder is given")
+        with open(path, "rb") as file:
+            self.assertEqual(str(error_of(file)), f"{path}:3:1: $INCLUDE is not followed here: no folder is given")
+        with open(path, "rb") as file:
+            self.assertEqual(lines(file, "o.", folder=pathlib.Path(self.folder)), wanted)
+
+    def including(self, file, given=None):
+        """The records of a zone in the folder `sub` that includes a file, and what its errors say."""
+        zone, found = self.write("sub/zone", b'$TTL 7\n$INCLUDE "%s"\n' % os.fsencode(file)), []
+        folder = None if given is None else os.path.join(self.folder, given)
+        return lines(zone, "o.", folder=folder, errors=found.append) + [error.reason for error in found]
+
+    def test_folders(self):
+        """Which files are included: those below the folder of the zone file, and below one that is given."""
+        for file, text in {"g": b"out TXT x", "sub/g": b"near TXT x", "sub/deep/f": b"$INCLUDE g", "sub/deep/g": b"deep TXT x"}.items():
+            self.write(file, text)
+        for link, target in {"sub/out": "../g", "sub/lost": "../none", "in": "sub/g", "sub/up": ".."}.items():
+            os.symlink(target, os.path.join(self.folder, link))
+        near, out = ['near.o. 7 IN TXT "x"'], ['out.o. 7 IN TXT "x"']
+        self.assertEqual(self.including("deep/f"), ['deep.o. 7 IN TXT "x"'])
+        for file in ["g", "./g", "../sub/g", "deep/../g", "../in", "up/sub/g", f"{self.folder}/sub/g", f"{self.folder}/in"]:
+            self.assertEqual(self.including(file), near, file)
+        # the same error, whether the file is there or not
+        outside = ["../g", "../none", "../none/g", "out", "lost", "up/g", "up/none", "/etc/passwd", "/etc/none", "/", ".."]
+        for file in [*outside, f"{self.folder}/g", f"{self.folder}/none"]:
+            for given in (None, "sub", "sub/deep", "nowhere", "s"):
+                self.assertEqual(self.including(file, given), [f"'{file}' is outside the folders to include from"])
+        for file in ["../g", "out", "up/g", f"{self.folder}/g"]:
+            self.assertEqual(self.including(file, "."), out, file)
+        # A folder that is given is not where relative paths of a file begin.
+        self.assertEqual(self.including("g", "."), near)
+
+    @unittest.skipUnless(hasattr(os, "mkfifo"), "the system has no named pipes")
+    def test_pipes(self):
+        pipe = os.path.join(self.folder, "pipe")
+        os.mkfifo(pipe)
+        self.write("f", b"a 1 A 192.0.2.1\n")
+        for folder, wanted in {None: "$INCLUDE is not followed here: no folder is given", self.folder: "a.o. 1 IN A 192.0.2.1"}.items():
+            writer = threading.Thread(target=self.write, args=("pipe", b"$INCLUDE f\n"))
+            writer.start()
+            found = []
+            self.assertEqual(lines(pipe, "o.", folder=folder, errors=found.append) + [error.reason for error in found], [wanted])
+            writer.join()
+        self.assertEqual(self.including("../pipe", "."), ["'../pipe' is not a file"])
+
+    def test_lines_are_hidden(self):
+        """No line of an included file is shown before a record of it."""
+        for before in (0, 1, 300):
+            self.write("f", b"root:x:0\n$INCLUDE none\n\"\n" + b"a 1 A 192.0.2.1\n" * before + b"root:x:0\n$INCLUDE none\n")
+            found = []
+            self.assertEqual(len(lines(self.write("zone", b"$INCLUDE f\nx:\n"), "o.", errors=found.append)), before)
+            shown = ["root:x:0", "$INCLUDE none"] if before else ["", ""]
+            self.assertEqual([error.text for error in found], ["", "", "", *shown, "x:"])
+
+    def test_names_are_escaped(self):
+        escaped = r"x\027[31m\010\009\195\169"
+        self.assertEqual(self.including(escaped), [f"'{escaped}' cannot be read: No such file or directory"])
+        self.write(b"sub/x\x1b[31m\n\t\xc3\xa9".decode(), b"x")
+        zone = self.write("sub/zone", b'$INCLUDE "%s"' % escaped.encode())
+        self.assertRegex(str(error_of(zone)), f"^{re.escape(self.folder)}/sub/{re.escape(escaped)}:1:2: ")
 
     def test_errors_in_files(self):
         path = self.write("zone", b"\n\n$INCLUDE f\n")
-        inner = self.write("f", b"; a\n x\n")
+        inner = self.write("f", b"a 1 A 1.2.3.4\n$x\n")
         error = error_of(path)
-        self.assertEqual((error.file, error.line, error.text), (inner, 2, " x"))
-        self.assertEqual(str(error), f"{inner}:2:2: no owner is there, nor in an entry before")
+        self.assertEqual((error.file, error.line, error.text), (inner, 2, "$x"))
+        self.assertEqual(str(error), f"{inner}:2:1: {error.reason}")
         for name, reason in {
-            "none": "'none' cannot be read: No such file or directory", ".": "'.' is not a file", "/dev/zero": "'/dev/zero' is not a file",
+            "none": "'none' cannot be read: No such file or directory", ".": "'.' is not a file", "/dev/zero": "'/dev/zero' is outside the folders to include from",
             "zone": "'zone' includes itself", "link": "'link' includes itself", '""': "no file is there", '"a\\000"': "no file is there",
         }.items():  # fmt: skip
             with self.subTest(name):
@@ -198,7 +259,11 @@ class Files(unittest.TestCase):
             self.write(f"f{n}", b"$INCLUDE f%d\n%d 1 A 1.2.3.4\n" % (n + 1, n))
         found = []
         self.assertEqual(len(lines(os.path.join(self.folder, "f0"), "o.", errors=found.append)), 10)
-        self.assertEqual([str(it) for it in found], [f"{self.folder}/f9:1:1: files include one another more than 10 deep"])
+        self.assertEqual([str(it) for it in found], [f"{self.folder}/f9:1:1: 10 files include one another already"])
+        path = self.write("many", b"$INCLUDE f11\n" * 1002)
+        found = []
+        self.assertEqual(lines(path, "o.", errors=found.append)[1:], ["11.o. 1 IN A 1.2.3.4"] * 999)
+        self.assertEqual([str(it) for it in found][-1:], [f"{path}:1002:1: 1000 files are included already"])
         # two files that include one another
         self.write("a", b"$INCLUDE b\n")
         self.write("b", b"$INCLUDE a\n")

@@ -150,7 +150,7 @@ impl ZoneFile {
     fn place_of(&self, path: &Path) -> Option<PathBuf> {
         let place = canonical(path.parent()?).ok()?.join(path.file_name()?);
         let place = if place.is_symlink() { place.canonicalize().ok()? } else { place };
-        self.folders.iter().any(|folder| place.starts_with(folder)).then(|| place)
+        self.folders.iter().any(|folder| place.starts_with(folder)).then_some(place)
     }
 }
 
