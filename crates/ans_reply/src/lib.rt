@@ -7,6 +7,7 @@
 pub mod head;
 mod helping;
 mod item;
+pub mod message;
 mod record;
 pub mod reply;
 mod section;

@@ -1,11 +1,13 @@
 //! What is replied to requests about a zone.
 
 use crate::recorded::{ROWS, ZONE};
+use ans_reply::head::{head_of, size_limit};
+use ans_reply::message::write_reply;
 use ans_reply::reply::{ReplyItems, items_of};
 use ans_store::store::ZoneStore;
 use dns_names_wire::data_text::{data_text, parse_record};
 use dns_names_wire::message::{MessageRef, QueryRef};
-use dns_names_wire::message_writer::WriterState;
+use dns_names_wire::message_writer::{Asked, WriterState};
 use dns_names_wire::{BinDecoder, Name, RecordRef, RecordType};
 use std::alloc::Global;
 use std::test::Fail;
@@ -33,12 +35,12 @@ fn code_name(code: u16) -> &'static str {
     }
 }
 
-/// Returns what is replied to a request, or `None` if it is none.
+/// Returns what is replied to a request, and how it asks, or `None` if it is none.
 fn reply_to(
     alloc: Global,
     zone: &ZoneStore<'_>,
     request: &[u8],
-) -> Result<Option<ReplyItems>, Fail> {
+) -> Result<Option<(ReplyItems, Asked)>, Fail> {
     let mut room = [0; 512];
     let mut state = WriterState::new();
     let Ok(asked) = state.reply_to(&mut room, request, 0, 0, 512) else {
@@ -46,14 +48,16 @@ fn reply_to(
     };
     let operation = request[2] / 8 % 16;
     let Ok(message) = MessageRef::read(request) else {
-        return Ok(Some(items_of(alloc, zone, operation, asked, None)?));
+        return Ok(Some((items_of(alloc, zone, operation, asked, None)?, asked)));
     };
     let mut queries = message.queries();
-    let query = queries.next();
-    if queries.next().is_some() {
-        return Ok(Some(items_of(alloc, zone, operation, asked, None)?));
-    }
-    Ok(Some(items_of(alloc, zone, operation, asked, query)?))
+    let first = queries.next();
+    let query = if queries.next().is_some() {
+        None
+    } else {
+        first
+    };
+    Ok(Some((items_of(alloc, zone, operation, asked, query)?, asked)))
 }
 
 /// Returns a record of a section as a line.
@@ -110,11 +114,34 @@ fn says(reply: &ReplyItems, lines: &[String], wanted: &str) -> bool {
     let mut count = 0;
     for row in rows {
         count += 1;
-        if !lines.iter().any(|line| line.as_str().eq_ignore_ascii_case(row)) {
+        if !lines
+            .iter()
+            .any(|line| line.as_str().eq_ignore_ascii_case(row))
+        {
             return false;
         }
     }
     head.contains(" tc") || lines.len() == count
+}
+
+/// Returns `true` if the message of a reply has its code and AA, and TC if the first line of what is wanted says so.
+fn is_written(
+    request: &[u8],
+    reply: &ReplyItems,
+    asked: Asked,
+    wanted: &str,
+) -> Result<bool, Fail> {
+    let mut room = [0; 4096];
+    let Some(head) = head_of(request, reply.is_authoritative) else {
+        return Ok(false);
+    };
+    let written = write_reply(reply, head, size_limit(asked, true, 4096), &mut room)?;
+    let message = MessageRef::read(&room[..written.len])?;
+    let said = wanted.split('\n').next().unwrap_or("");
+    Ok(
+        written.truncated == said.contains(" tc")
+            && message.header().metadata.authoritative == reply.is_authoritative,
+    )
 }
 
 #[test]
@@ -125,14 +152,18 @@ fn each_request_has_the_reply_of_servers(rt: HostRuntime) -> Result<(), Fail> {
     let zone = ZoneStore::load(alloc, apex, octets.as_slice())?;
     for (label, digits, wanted) in ROWS {
         let request = hex::decode(alloc, digits)?;
-        let Some(reply) = reply_to(alloc, &zone, request.as_slice())? else {
+        let Some((reply, asked)) = reply_to(alloc, &zone, request.as_slice())? else {
             assert_eq!(rt; wanted, "none", "{label}");
             continue;
         };
         let (lines, question) = lines_of(alloc, &reply)?;
         assert!(rt; says(&reply, lines.as_slice(), wanted), "{label}");
-        let asked = request.as_slice().get(12..12 + question.len());
-        assert!(rt; asked == Some(question.as_slice()), "{label}");
+        let start = request.as_slice().get(12..12 + question.len());
+        assert!(rt; start == Some(question.as_slice()), "{label}");
+        assert!(rt;
+            is_written(request.as_slice(), &reply, asked, wanted)?,
+            "{label}"
+        );
     }
     Ok(())
 }
