@@ -101,7 +101,7 @@ impl<R> ZoneStream<R> {
     }
 
     fn with_entries(source: R, entries: Entries) -> Self {
-        let (window, start, end, more, cause, is_over) = (Vec::new(), 0, 0, true, None, false);
+        let (window, start, end, more, cause, is_over) = (vec![0; USUAL_SIZE], 0, 0, true, None, false);
         ZoneStream { source, entries, window, start, end, more, cause, is_over }
     }
 
