@@ -319,6 +319,7 @@ mod files {
         for file in ["../g", "out", "up/g", &whole("g")] {
             assert_eq!(including(&folder, file, &["sub/deep", "."]), record("out"), "{file}");
         }
+        assert!(including(&folder, "g/", &[])[0].starts_with("\"g/\" cannot be read: "));
         // A folder that is given is not where relative paths begin.
         assert_eq!(including(&folder, "g", &["."]), record("near"));
     }

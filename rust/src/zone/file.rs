@@ -139,7 +139,7 @@ impl ZoneFile {
         let path = outer.place.parent().and(outer.path.parent()).unwrap_or(&self.folders[0]).join(include.path());
         let place = self.place_of(&path).ok_or_else(|| error(named("is outside the folders to include from")))?;
         ensure(self.files.iter().all(|open| open.place != place), named("includes itself"))?;
-        ensure(place.metadata().map_err(unread)?.is_file(), named("is not a file"))?;
+        ensure(path.metadata().map_err(unread)?.is_file(), named("is not a file"))?;
         let entries = outer.entries.include(File::open(&place).map_err(unread)?, include.origin());
         self.files.push(OpenFile { path, place, entries, shows_lines: false });
         self.count += 1;
