@@ -259,6 +259,8 @@ impl<'a> TryFrom<RData<'a>> for IpAddr {
 /// Implements the conversions between `RData`, borrowed or owned, and the values of its variants.
 macro_rules! from_value {
     ($data:ty; $($name:ident: $value:ty,)*) => {$(
+        // Owned values have no lifetime.
+        #[allow(clippy::extra_unused_lifetimes)]
         impl<'a> From<$value> for $data {
             fn from(data: $value) -> Self {
                 RData::$name(data)
@@ -266,6 +268,7 @@ macro_rules! from_value {
         }
 
         /// Returns data of another type as the error.
+        #[allow(clippy::extra_unused_lifetimes)]
         impl<'a> TryFrom<$data> for $value {
             type Error = $data;
 

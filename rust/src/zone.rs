@@ -314,7 +314,7 @@ impl Entries {
     fn include(&self, origin: &Name) -> Self {
         let mut zone = self.zone.clone();
         let begun = origin.whole_wire().and_then(|origin| ffi::zone_include(origin, &mut zone));
-        Entries::with_state(zone, self.failure.or(begun.err()))
+        Entries::with_state(zone, self.failure.or_else(|| begun.err()))
     }
 
     /// Sets the TTL of records for which the file states none.
