@@ -5,6 +5,7 @@ ghost use Rattle.dns_names_wire.specs.Words.{class_code, type_code};
 ghost use Rattle.ans_reply.specs.Lists.{opt_item, opt_octets, item_of_question, item_of_record, section_items};
 
 use crate::record::Listed;
+use dns_names_wire::limits::MAX_NAME;
 use dns_names_wire::message::QueryRef;
 use dns_names_wire::message_writer::Asked;
 use dns_names_wire::type_codes::OPT;
@@ -16,9 +17,6 @@ pub(crate) const PAYLOAD: u16 = 1232;
 
 /// DO among the flags of an `OPT` record, which are in its time to live (RFC 6891, section 6.1.4).
 const DNSSEC_OK: u32 = 0x8000;
-
-/// The most octets of a name in wire form (RFC 1035, section 2.3.4).
-const MAX_NAME: usize = 255;
 
 /// Appends an item: its octet, the wire form of its name, its fields and its data.
 fn append_item(
